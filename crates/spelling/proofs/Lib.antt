@@ -1,0 +1,8 @@
+mod Squeezing
+mod Trimming
+mod Apart
+mod Cases
+mod Shape
+mod Settled
+mod Paths
+mod Changes

@@ -1,0 +1,5 @@
+pub mod Settling
+pub mod Settled
+pub mod Alike
+pub mod Laws
+pub mod Faces
