@@ -1,0 +1,6 @@
+use borrow.Author.Needs.{needs}
+use Rattle.std.proofs.shelf.Lists.{take-all}
+use Rattle.script.proofs.written.front.Needs as need
+
+pub returns-in-None : need.returns-in-None
+returns-in-None c = search (needs, take-all)

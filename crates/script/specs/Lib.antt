@@ -1,0 +1,4 @@
+pub mod Answering
+pub mod Escapes
+pub mod Lines
+pub mod Words
