@@ -1,5 +1,6 @@
 /* Times spelling_settle against the same rule in plain C, compiled by -O2 and by -O3, in one run. */
 #define _POSIX_C_SOURCE 200809L
+#include "roll.h"
 #include "spelling.h"
 
 #include <stdio.h>
@@ -29,17 +30,6 @@ struct text {
 static struct text texts[TEXTS];
 static uint16_t order[CALLS];
 static volatile int32_t sink;
-
-/* a fixed sequence, so that each run measures the same texts */
-static unsigned roll(unsigned below)
-{
-    static uint64_t state = UINT64_C(0x9E3779B97F4A7C15);
-
-    state ^= state << 13;
-    state ^= state >> 7;
-    state ^= state << 17;
-    return (unsigned)((state >> 33) % below);
-}
 
 static void add(struct text *t, uint8_t b)
 {

@@ -4,6 +4,8 @@
    usage: settle_test [RANDOM_CASES]    fewer cases for slow runs, as under valgrind */
 #include "spelling.h" /* first, to show that it needs nothing before it */
 
+#include "roll.h"
+
 #include <ctype.h>
 #include <inttypes.h>
 #include <stdio.h>
@@ -334,17 +336,6 @@ static void short_texts(void)
             compare("a short text, a short buffer", text + 38, n, 39);
             compare("a short text after 38 letters", text, 38 + n, 40);
         }
-}
-
-/* a fixed sequence, the same on every machine */
-static unsigned roll(unsigned below)
-{
-    static uint64_t state = UINT64_C(0x2545F4914F6CDD1D);
-
-    state ^= state << 13;
-    state ^= state >> 7;
-    state ^= state << 17;
-    return (unsigned)((state >> 33) % below);
 }
 
 static size_t random_text(uint8_t text[125])

@@ -35,6 +35,7 @@ abbrev pub text-part : Option (List ℕ) → Option (List ℕ)
 text-part None = Some []
 text-part (Some bs) = unescaped bs
 
+-- both the number and the text have to be readable
 abbrev pub sized-text : Option ℕ → Option (List ℕ) → Said
 sized-text None t = invalid
 sized-text (Some n) None = invalid
@@ -52,7 +53,7 @@ is-settletext name = sameBytes name (codes "settletext")
 abbrev pub call-of : List ℕ → Option (List ℕ) → Said
 call-of name rest = cond (is-settletext name) (settletext-of rest) invalid
 
--- 35 is #
+-- an empty line and a comment are passed over; 35 is #
 abbrev pub line-of : List ℕ → Said
 line-of [] = passed-over
 line-of (b ∷ bs) = cond (eqb b 35) passed-over (call-of (first-word (b ∷ bs)) (after-word (b ∷ bs)))

@@ -26,7 +26,7 @@ pub fn line_text(read: &[u8]) -> &[u8]
     ensures { λ r. ⌜ now r ≡ without-newline (now (read .entry)) ⌝ }
 {
     match read.split_last() {
-        Some((last, line)) => { if is_newline(*last) { line } else { read } }
+        Some((last, line)) => if is_newline(*last) { line } else { read },
         None => read,
     }
 }
@@ -58,6 +58,7 @@ fn settle_text(heap: Global, rest: Option<&[u8]>) -> Result<Line, AllocError>
     }
 }
 
+// A call by its name, and what follows the name.
 fn call(heap: Global, name: &[u8], rest: Option<&[u8]>) -> Result<Line, AllocError>
     ensures value { λ r. ⌜ made r (λ l. said l ≡ call-of (now (name .entry)) (mapped now (rest .entry))) ⌝ }
     ensures ok { λ r. ⌜ (is-settletext (now (name .entry)) ≡ false → isOk r ≡ true) ⌝ }

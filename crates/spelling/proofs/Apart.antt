@@ -6,7 +6,7 @@ use Prim.Native.Nat.{ℕ, zero, suc, _-_}
 use native.Mathlib.Omega.{arith}
 use native.Mathlib.Numerals.{add-one}
 use lib.ListN.{getD}
-use Rattle.std.proofs.shelf.Tests.{both-ways, and-from}
+use Rattle.std.proofs.shelf.Tests.{both-ways, and-from, and-parts, eq-eqb}
 use Rattle.spelling.specs.Settling.{is-slash, trim-left, merge-runs}
 use Rattle.spelling.specs.Settled.{NoRun}
 use Rattle.spelling.proofs.Squeezing.{squeezed, squeezed-more}
@@ -18,12 +18,8 @@ Apart after (b ∷ bs) = ((is-slash b && after) ≡ false) × Apart (is-slash b)
 
 apart-step : (after : Bool) (b : ℕ) (bs : List ℕ) (again : Bool) → (is-slash b && after) ≡ again → ((a : Bool) → Apart a (squeezed a bs)) → Apart after (squeezed after (b ∷ bs))
 apart-step after b bs true e rest =
-    let both = and-sides (is-slash b) after e in
+    let both = and-parts (is-slash b) after e in
     rw (squeezed-more after b bs, e, both .0, both .1) (rest true)
-  where
-    and-sides : (x y : Bool) → (x && y) ≡ true → (x ≡ true) × (y ≡ true)
-    and-sides true y h = (refl, h)
-    and-sides false y h = (h, absurd (both-ways false refl h))
 apart-step after b bs false e rest = rw (squeezed-more after b bs, e) (e, rest (is-slash b))
 
 pub apart-squeezed : (bs : List ℕ) (after : Bool) → Apart after (squeezed after bs)
@@ -32,16 +28,13 @@ apart-squeezed [] false = tt
 apart-squeezed (b ∷ bs) after = apart-step after b bs (is-slash b && after) refl (apart-squeezed bs)
 
 -- by places
-slash-is : (b : ℕ) → b ≡ 47 → is-slash b ≡ true
-slash-is b e = rw e refl
-
 pub apart-first : (bs : List ℕ) → Apart true bs → getD bs 0 0 ≡ 47 → ⊥
 apart-first [] h e = omega arith
-apart-first (b ∷ bs) h e = both-ways (is-slash b && true) (h .0) (and-from (is-slash b) true (slash-is b e) refl)
+apart-first (b ∷ bs) h e = both-ways (is-slash b && true) (h .0) (and-from (is-slash b) true (eq-eqb b 47 e) refl)
 
 pub apart-no-run : (bs : List ℕ) (after : Bool) → Apart after bs → NoRun bs
 apart-no-run [] after h k e f = omega arith
-apart-no-run (b ∷ bs) after h zero e f = apart-first bs (subst (λ (a : Bool). Apart a bs) (slash-is b e) (h .1)) f
+apart-no-run (b ∷ bs) after h zero e f = apart-first bs (subst (λ (a : Bool). Apart a bs) (eq-eqb b 47 e) (h .1)) f
 apart-no-run (b ∷ bs) after h (suc k) e f = apart-no-run bs (is-slash b) (h .1) k e (rw add-one (rw add-one at f))
 
 -- what the merging and the trimming of the left end leave

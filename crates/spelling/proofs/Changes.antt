@@ -12,9 +12,10 @@ use Rattle.std.specs.declared.result.Result.the-variants.{Ok}
 use Rattle.spelling.specs.Alike.{Alike, letter, kind, run, left-end, right-end, none, back, then}
 use Rattle.spelling.specs.Laws.{Lawful}
 use Rattle.spelling.specs.Settling.{is-slash, plain, trim-left, trim-right, merge-runs, spelled, settle}
+use Rattle.spelling.proofs.Bytes.{capital-plain, plain-stays}
 use Rattle.spelling.proofs.Cases.{granted}
-use Rattle.spelling.proofs.Settled.{plain-stays, grants-settled, gives-back}
-use Rattle.spelling.proofs.Paths.{capital-plain, settles-alike}
+use Rattle.spelling.proofs.Settled.{grants-settled, gives-back}
+use Rattle.spelling.proofs.Paths.{settles-alike}
 
 -- one byte
 alike-byte : (before after : List ℕ) (b : ℕ) → Alike (before ++ b ∷ after) (before ++ plain b ∷ after)

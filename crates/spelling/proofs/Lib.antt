@@ -1,3 +1,4 @@
+mod Bytes
 mod Squeezing
 mod Trimming
 mod Apart

@@ -4,12 +4,12 @@ use mathlib.Core.Bool.{Bool, true, false, cond, _&&_}
 use mathlib.Core.List.{List, [], _∷_, _++_, map}
 use Prim.Native.Nat.{ℕ, _+_, _≤_}
 use native.Mathlib.Omega.{arith}
-use lib.Dec.{leb}
 use lib.ListN.{length}
 use Rattle.std.proofs.shelf.Lists.{map-append, append-nil}
-use Rattle.std.proofs.shelf.Tests.{and-from, le-leb, ne-eqb, lt-ltb, le-ltb}
+use Rattle.std.proofs.shelf.Tests.{le-leb}
 use Rattle.spelling.specs.Alike.{Alike, letter, kind, run, left-end, right-end, none, back, then}
 use Rattle.spelling.specs.Settling.{allowed, each, is-slash, plain, trim-left, trim-right, merge-runs, spelled, settle}
+use Rattle.spelling.proofs.Bytes.{is-allowed, capital-plain, plain-stays}
 use Rattle.spelling.proofs.Squeezing.{squeezed, squeezed-more, trim-left-twice}
 use Rattle.spelling.proofs.Trimming.{trim-right-slash}
 
@@ -23,18 +23,13 @@ spelled-byte : (before after : List ℕ) (a b : ℕ) → plain a ≡ plain b →
 unfolding spelled
 spelled-byte before after a b e = rw (map-append plain before (a ∷ after), map-append plain before (b ∷ after), e) refl
 
+-- whether all bytes are allowed, after a front that both texts have
+allowed-after : (before t u : List ℕ) → each allowed t ≡ each allowed u → each allowed (before ++ t) ≡ each allowed (before ++ u)
+allowed-after [] t u e = e
+allowed-after (x ∷ before) t u e = ap (λ (r : Bool). allowed x && r) (allowed-after before t u e)
+
 allowed-byte : (before after : List ℕ) (a b : ℕ) → allowed a ≡ allowed b → each allowed (before ++ a ∷ after) ≡ each allowed (before ++ b ∷ after)
-allowed-byte [] after a b e = rw e refl
-allowed-byte (x ∷ before) after a b e = ap (λ (r : Bool). allowed x && r) (allowed-byte before after a b e)
-
-pub capital-plain : (b : ℕ) → 65 ≤ b → b ≤ 90 → plain b ≡ b + 32
-capital-plain b low high = rw (le-ltb b 65 low, lt-ltb b 91 (omega arith), ne-eqb (b + 32) 92 (λ e. omega arith)) refl
-
-letter-plain : (b : ℕ) → 65 ≤ b → b ≤ 90 → plain (b + 32) ≡ b + 32
-letter-plain b low high = rw (le-ltb (b + 32) 65 (omega arith), le-ltb (b + 32) 91 (omega arith), ne-eqb (b + 32) 92 (λ e. omega arith)) refl
-
-is-allowed : (b : ℕ) → 32 ≤ b → b ≤ 126 → allowed b ≡ true
-is-allowed b low high = and-from (leb 32 b) (leb b 126) (le-leb 32 b low) (le-leb b 126 high)
+allowed-byte before after a b e = allowed-after before (a ∷ after) (b ∷ after) (rw e refl)
 
 -- a slash more or less in a run
 merge-slashes : (before after : List ℕ) → merge-runs (before ++ 47 ∷ 47 ∷ after) ≡ merge-runs (before ++ 47 ∷ after)
@@ -45,10 +40,6 @@ spelled-run : (before after : List ℕ) → spelled (before ++ 47 ∷ 47 ∷ aft
 unfolding spelled
 spelled-run before after =
     rw (map-append plain before (47 ∷ 47 ∷ after), map-append plain before (47 ∷ after)) (ap (λ (l : List ℕ). trim-right (trim-left l)) (merge-slashes (map plain before) (map plain after)))
-
-allowed-run : (before after : List ℕ) → each allowed (before ++ 47 ∷ 47 ∷ after) ≡ each allowed (before ++ 47 ∷ after)
-allowed-run [] after = refl
-allowed-run (x ∷ before) after = ap (λ (r : Bool). allowed x && r) (allowed-run before after)
 
 -- a slash at an end
 spelled-left : (t : List ℕ) → spelled (47 ∷ t) ≡ spelled t
@@ -78,17 +69,16 @@ spelled-right t =
     rw (map-append plain t (47 ∷ [])) (ap trim-right (end .1) ∙ trim-end (trim-left (merge-runs (map plain t))) (end .0))
 
 allowed-right : (t : List ℕ) → each allowed (t ++ 47 ∷ []) ≡ each allowed t
-allowed-right [] = refl
-allowed-right (x ∷ t) = ap (λ (r : Bool). allowed x && r) (allowed-right t)
+allowed-right t = allowed-after t (47 ∷ []) [] refl ∙ ap (each allowed) (append-nil t)
 
 pub alike-same : {t u : List ℕ} → Alike t u → Same t u
 alike-same (letter before after b low high) =
     record {
-      spelled-same = spelled-byte before after b (b + 32) (capital-plain b low high ∙ sym (letter-plain b low high));
+      spelled-same = spelled-byte before after b (b + 32) (capital-plain b low high ∙ sym (plain-stays (b + 32) (λ p q. omega arith) (λ e. omega arith)));
       allowed-same = allowed-byte before after b (b + 32) (is-allowed b (omega arith) (omega arith) ∙ sym (is-allowed (b + 32) (omega arith) (omega arith)));
     }
 alike-same (kind before after) = record { spelled-same = spelled-byte before after 92 47 refl; allowed-same = allowed-byte before after 92 47 refl }
-alike-same (run before after) = record { spelled-same = spelled-run before after; allowed-same = allowed-run before after }
+alike-same (run before after) = record { spelled-same = spelled-run before after; allowed-same = allowed-after before (47 ∷ 47 ∷ after) (47 ∷ after) refl }
 alike-same (left-end text) = record { spelled-same = spelled-left text; allowed-same = refl }
 alike-same (right-end text) = record { spelled-same = spelled-right text; allowed-same = allowed-right text }
 alike-same (none text) = record { spelled-same = refl; allowed-same = refl }

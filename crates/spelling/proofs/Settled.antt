@@ -2,16 +2,15 @@
 use mathlib.Core.Path.{_≡_, refl, _∙_, ap}
 use mathlib.Core.Bool.{Bool, true, false}
 use mathlib.Core.List.{List, [], _∷_, map}
-use mathlib.Core.Logic.{⊎-elim}
 use Prim.Native.Nat.{ℕ, suc, _-_, _≤_}
 use native.Mathlib.Omega.{arith}
 use native.Mathlib.Numerals.{add-one}
-use lib.Dec.{leb}
 use lib.ListN.{length, getD}
-use Rattle.std.proofs.shelf.Tests.{and-from, le-leb, ne-eqb, lt-ltb, le-ltb, eqb-true, cases-lt}
+use Rattle.std.proofs.shelf.Tests.{and-from, ne-eqb, eqb-true}
 use Rattle.std.specs.declared.result.Result.the-variants.{Ok}
 use Rattle.spelling.specs.Settled.{Printable, NoCapital, NoBackslash, NoRun, Settled}
 use Rattle.spelling.specs.Settling.{allowed, each, is-slash, plain, trim-left, merge-runs, spelled, settle}
+use Rattle.spelling.proofs.Bytes.{is-allowed, plain-stays}
 use Rattle.spelling.proofs.Cases.{granted, grants}
 use Rattle.spelling.proofs.Shape.{spelled-settled}
 use Rattle.spelling.proofs.Trimming.{trim-right-stays}
@@ -26,14 +25,7 @@ all-allowed : (t : List ℕ) → Printable t → each allowed t ≡ true
 all-allowed [] h = refl
 all-allowed (b ∷ t) h =
     let here = h 0 (omega arith) in
-    and-from (allowed b) (each allowed t) (and-from (leb 32 b) (leb b 126) (le-leb 32 b (here .0)) (le-leb b 126 (here .1))) (all-allowed t (λ k lt. h (suc k) (omega arith)))
-
-pub plain-stays : (b : ℕ) → (65 ≤ b → b ≤ 90 → ⊥) → (b ≡ 92 → ⊥) → plain b ≡ b
-plain-stays b small straight =
-    ⊎-elim
-    (λ lt. rw (lt-ltb b 65 lt, ne-eqb b 92 straight) refl)
-    (λ ge. let past : 91 ≤ b = ⊎-elim (λ lt. absurd (small ge (omega arith))) (λ le. le) (cases-lt b 91) in rw (le-ltb b 65 ge, le-ltb b 91 past, ne-eqb b 92 straight) refl)
-    (cases-lt b 65)
+    and-from (allowed b) (each allowed t) (is-allowed b (here .0) (here .1)) (all-allowed t (λ k lt. h (suc k) (omega arith)))
 
 map-stays : (t : List ℕ) → NoCapital t → NoBackslash t → map plain t ≡ t
 map-stays [] small straight = refl

@@ -19,14 +19,11 @@ trim-left-twice [] = refl
 trim-left-twice (b ∷ bs) = trim-kept b bs (is-slash b) refl (trim-left-twice bs)
 
 -- one byte more: a slash after a slash goes, any other byte stays
+more-by : (after s : Bool) (b : ℕ) (bs : List ℕ) → is-slash b ≡ s → squeezed after (b ∷ bs) ≡ cond (is-slash b && after) (squeezed (is-slash b) bs) (b ∷ squeezed (is-slash b) bs)
+more-by true true b bs e = rw e (trim-left-twice (merge-runs bs))
+more-by true false b bs e = rw e refl
+more-by false true b bs e = rw e refl
+more-by false false b bs e = rw e refl
+
 pub squeezed-more : (after : Bool) (b : ℕ) (bs : List ℕ) → squeezed after (b ∷ bs) ≡ cond (is-slash b && after) (squeezed (is-slash b) bs) (b ∷ squeezed (is-slash b) bs)
-squeezed-more true b bs = by-slash (is-slash b) refl
-  where
-    by-slash : (s : Bool) → is-slash b ≡ s → squeezed true (b ∷ bs) ≡ cond (is-slash b && true) (squeezed (is-slash b) bs) (b ∷ squeezed (is-slash b) bs)
-    by-slash true e = rw e (trim-left-twice (merge-runs bs))
-    by-slash false e = rw e refl
-squeezed-more false b bs = by-slash (is-slash b) refl
-  where
-    by-slash : (s : Bool) → is-slash b ≡ s → squeezed false (b ∷ bs) ≡ cond (is-slash b && false) (squeezed (is-slash b) bs) (b ∷ squeezed (is-slash b) bs)
-    by-slash true e = rw e refl
-    by-slash false e = rw e refl
+squeezed-more after b bs = more-by after (is-slash b) b bs refl

@@ -15,7 +15,7 @@ use Rattle.spelling.specs.Settled.{NoRun}
 pub trim-right-slash : (bs : List ℕ) (b : ℕ) → is-slash b ≡ true → trim-right (bs ++ b ∷ []) ≡ trim-right bs
 trim-right-slash bs b e = rw (reverse-append bs (b ∷ []), e) refl
 
-pub trim-right-other : (bs : List ℕ) (b : ℕ) → is-slash b ≡ false → trim-right (bs ++ b ∷ []) ≡ bs ++ b ∷ []
+trim-right-other : (bs : List ℕ) (b : ℕ) → is-slash b ≡ false → trim-right (bs ++ b ∷ []) ≡ bs ++ b ∷ []
 trim-right-other bs b e = rw (reverse-append bs (b ∷ []), e) (reverse-append (b ∷ []) (reverse bs) ∙ ap (λ (r : List ℕ). r ++ b ∷ []) (reverse-reverse bs))
 
 -- a text is its last byte after the others
@@ -32,13 +32,16 @@ trim-right-stays (b ∷ bs) e =
     let other : is-slash (getD (b ∷ bs) n 0) ≡ false = rw at at e in
     ap trim-right apart ∙ trim-right-other (take n (b ∷ bs)) (getD (b ∷ bs) n 0) other ∙ sym apart
 
--- the byte before a slash is none
+-- the last byte of a front
+pub last-of-front : (bs : List ℕ) (n : ℕ) → suc n ≤ length bs → getD (take (suc n) bs) (length (take (suc n) bs) - 1) 0 ≡ getD bs n 0
+last-of-front bs n in′ =
+    let long : length (take (suc n) bs) - 1 ≡ n = omega (arith, length-take-le (suc n) bs in′) in
+    rw long (getD-take (suc n) bs n 0 (omega arith))
+
+-- the byte before a slash is no slash
 pub before-slash : (bs : List ℕ) (n : ℕ) → NoRun bs → n ≤ length bs → getD bs n 0 ≡ 47 → is-slash (getD (take n bs) (length (take n bs) - 1) 0) ≡ false
 before-slash bs zero single in′ e = refl
-before-slash bs (suc n) single in′ e =
-    let long : length (take (suc n) bs) - 1 ≡ n = omega (arith, length-take-le (suc n) bs in′) in
-    let at : getD (take (suc n) bs) n 0 ≡ getD bs n 0 = getD-take (suc n) bs n 0 (omega arith) in
-    rw (long, at) (ne-eqb (getD bs n 0) 47 (λ h. single n h (rw add-one e)))
+before-slash bs (suc n) single in′ e = rw (last-of-front bs n in′) (ne-eqb (getD bs n 0) 47 (λ h. single n h (rw add-one e)))
 
 -- where no two slashes stand together, one step trims the right end
 pub trim-right-once : (bs : List ℕ) (n : ℕ) → NoRun bs → length bs ≡ n + 1 → getD bs n 0 ≡ 47 → trim-right bs ≡ take n bs

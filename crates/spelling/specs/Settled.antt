@@ -26,5 +26,6 @@ NoSlashAtEnds text = (getD text 0 0 ≡ 47 → ⊥) × (getD text (length text -
 abbrev pub OneToForty : List ℕ → Type 0
 OneToForty text = (1 ≤ length text) × (length text ≤ 40)
 
+-- all of this together
 abbrev pub Settled : List ℕ → Type 0
 Settled text = Printable text × NoCapital text × NoBackslash text × NoRun text × NoSlashAtEnds text × OneToForty text

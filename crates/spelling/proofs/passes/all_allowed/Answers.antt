@@ -1,5 +1,5 @@
 use mathlib.Core.Path.{_≡_, refl, ap, _∙_, sym}
-use mathlib.Core.Bool.{Bool, true, false, _&&_}
+use mathlib.Core.Bool.{Bool, _&&_, and-assoc, and-true}
 use Prim.Native.Nat.{_<_, _≤_, _+_}
 use native.Mathlib.Omega.{arith}
 use lib.ListN.{length, getD, drop}
@@ -7,21 +7,13 @@ use Rattle.std.proofs.shelf.Lists.{at-drop-more, at-drop-all}
 use Rattle.spelling.specs.Settling.{allowed, each}
 use Rattle.spelling.proofs.passes.all_allowed.Needs as need
 
-and-regroup : (a b c : Bool) → ((a && b) && c) ≡ (a && (b && c))
-and-regroup true b c = refl
-and-regroup false b c = refl
-
-and-true : (a : Bool) → (a && true) ≡ a
-and-true true = refl
-and-true false = refl
-
 pub loop-b-again : need.loop-b-again
 loop-b-again c =
     let text = c .args .text .now in
     let i = c .loop-b .b-index in
     let lt : i < length text = omega arith in
     rw (c .is-allowed-all .ensures) (
-    and-regroup (c .loop-b .all) (allowed (getD text i 0)) (each allowed (drop (i + 1) text))
+    and-assoc (c .loop-b .all) (allowed (getD text i 0)) (each allowed (drop (i + 1) text))
     ∙ ap (λ (r : Bool). c .loop-b .all && r) (sym (at-drop-more (each allowed) text i 0 lt))
     ∙ c .loop-b .inv)
 

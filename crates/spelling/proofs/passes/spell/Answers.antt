@@ -9,7 +9,7 @@ use lib.ListN.{length, take, getD}
 use Rattle.std.proofs.shelf.Lists.{take-take, length-take-le, getD-take}
 use Rattle.std.proofs.shelf.Tests.{ne-eqb, and-parts, and-from, ltb-true, lt-ltb, eqb-true, both-ways, cases-bool}
 use Rattle.spelling.specs.Settling.{is-slash, plain, trim-left, trim-right, merge-runs, spelled}
-use Rattle.spelling.proofs.Trimming.{trim-right-once, trim-right-stays}
+use Rattle.spelling.proofs.Trimming.{last-of-front, trim-right-once, trim-right-stays}
 use Rattle.spelling.proofs.Apart.{merged-no-run}
 use Rattle.spelling.proofs.passes.spell.Needs as need
 
@@ -29,10 +29,8 @@ one-less bytes text len e in′ some last =
 no-last : (bytes : List ℕ) (len : ℕ) → len ≤ length bytes → (0 < len → getD bytes (len - 1) 0 ≡ 47 → ⊥) → is-slash (getD (take len bytes) (length (take len bytes) - 1) 0) ≡ false
 no-last bytes zero in′ other = refl
 no-last bytes (suc len) in′ other =
-    let long : length (take (suc len) bytes) - 1 ≡ len = omega (arith, length-take-le (suc len) bytes in′) in
-    let at : getD (take (suc len) bytes) len 0 ≡ getD bytes len 0 = getD-take (suc len) bytes len 0 (omega arith) in
     let back : suc len - 1 ≡ len = omega arith in
-    rw (long, at) (ne-eqb (getD bytes len 0) 47 (λ h. other (omega arith) (rw back h)))
+    rw (last-of-front bytes len in′) (ne-eqb (getD bytes len 0) 47 (λ h. other (omega arith) (rw back h)))
 
 stays : (bytes text : List ℕ) (len : ℕ) → take len bytes ≡ merged text → len ≤ length bytes → (0 < len → getD bytes (len - 1) 0 ≡ 47 → ⊥) → take len bytes ≡ spelled text
 unfolding spelled
