@@ -1,3 +1,5 @@
+#![tactic(auto)]
+
 ghost use Rattle.examples.specs.Settling.{SettlingCases};
 ghost use Rattle.examples.specs.Store.{StoreCases};
 

@@ -1,5 +1,7 @@
 //! The definitions that every contract of the name store cites, and the promise on every run of its calls, proved.
 //! There is no program here but the enums that the definitions and the code share.
+#![tactic(auto)]
+
 
 ghost use Rattle.model.specs.Promise.{Theorem};
 

@@ -1,5 +1,7 @@
 // One spelling for each path (docs/RULES.md, "Settled spellings"). Two faces over one routine: `Spelling::settle` for
 // Rust, `spelling_settle` for C.
+#![tactic(auto)]
+
 ghost use Rattle.std.specs.Prelude.{◌≤◌, take};
 ghost use Rattle.spelling.specs.Settled.{Printable, NoCapital, NoBackslash, NoRun, NoSlashAtEnds};
 
