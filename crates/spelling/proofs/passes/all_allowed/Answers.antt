@@ -9,7 +9,7 @@ loop-b-preserved c =
     let text = c.args.text.now in
     let i = c.loop-b.b-index in
     let lt : i < length text = omega arith in
-    rw c.is-allowed-all.ensures (
+    rw c.is_allowed-all.ensures (
     and_assoc c.loop-b.all (allowed (get_or text i 0)) (each allowed (drop (i + 1) text))
     ∙ ap (λ (r : Bool). c.loop-b.all && r) (sym (at_drop_more (each allowed) text i 0 lt))
     ∙ c.loop-b.invariant)

@@ -26,8 +26,8 @@ loop-i-preserved c =
     let behind = c.loop-i.invariant.0 in
     let lt : c.loop-i.i < length bs = omega arith in
     elim c.if-not-goes.branch [
-      | then-not-goes w ↦ (omega (arith, w.len_is, behind), rw w.len_is (kept bs c.loop-i.len c.loop-i.i c.loop-i.after_slash behind lt (sym c.goes.ensures ∙ w.if-not-goes.true) ∙ c.loop-i.invariant.1))
-      | else-not-goes w ↦ (omega (arith, w.len_is, behind), rw w.len_is (left_out bs c.loop-i.len c.loop-i.i c.loop-i.after_slash behind lt (sym c.goes.ensures ∙ w.if-not-goes.false) ∙ c.loop-i.invariant.1))
+      | then-not-goes w ↦ (omega (arith, w.len-is, behind), rw w.len-is (kept bs c.loop-i.len c.loop-i.i c.loop-i.after_slash behind lt (sym c.goes.ensures ∙ w.if-not-goes.true) ∙ c.loop-i.invariant.1))
+      | else-not-goes w ↦ (omega (arith, w.len-is, behind), rw w.len-is (left_out bs c.loop-i.len c.loop-i.i c.loop-i.after_slash behind lt (sym c.goes.ensures ∙ w.if-not-goes.false) ∙ c.loop-i.invariant.1))
     ]
 
 pub returns : goal.returns

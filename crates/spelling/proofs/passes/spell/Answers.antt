@@ -43,6 +43,6 @@ cut bytes text len r e in' h =
 pub returns : goal.returns
 returns c =
     let text = c.args.text.now in
-    let whole : take c.merge-len.result c.merge-len.new.bytes ≡ merged text = c.merge-len.ensures.front ∙ ap (λ (bs : List ℕ). trim_left (merge_runs bs)) c.write-plain.ensures in
+    let whole : take c.merge-len.result c.merge-len.new.bytes ≡ merged text = c.merge-len.ensures.front ∙ ap (λ (bs : List ℕ). trim_left (merge_runs bs)) c.write_plain.ensures in
     let done = cut c.merge-len.new.bytes text c.merge-len.result c.trimmed.result whole c.merge-len.ensures.within c.trimmed.ensures in
     record { within = done.0; front = done.1 }

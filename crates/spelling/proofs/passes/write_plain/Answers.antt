@@ -7,9 +7,9 @@ pub loop-i-preserved : goal.loop-i-preserved
 loop-i-preserved c =
     let lt : c.loop-i.i < length c.args.text.now = omega arith in
     let room : c.loop-i.i < length c.loop-i.out = omega (arith, c.requires) in
-    let written = take_more_set c.loop-i.out c.loop-i.i c.plain-byte.result room in
+    let written = take_more_set c.loop-i.out c.loop-i.i c.plain_byte.result room in
     let more = map_more plain c.args.text.now c.loop-i.i 0 lt in
-    cc (c.loop-i.invariant, c.plain-byte.ensures)
+    cc (c.loop-i.invariant, c.plain_byte.ensures)
 
 pub returns : goal.returns
 returns c =

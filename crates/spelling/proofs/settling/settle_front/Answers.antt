@@ -18,23 +18,23 @@ too_much text len e size passed h =
     let good = text_passes text passed in
     sym (length_refused text e good.0 good.1 (h ∙ ap (λ (n : ℕ). length_limits {X = Unit {0}} n (Ok tt)) size))
 
-pub returns-in-err-check-text : goal.returns-in-err-check-text
-returns-in-err-check-text c =
-    let p = err_from_is_err_and c.from-residual.result c.from-residual.ensures.1 in
+pub returns-in_err-check_text : goal.returns-in_err-check_text
+returns-in_err-check_text c =
+    let p = err_from_is_err_and c.from_residual.result c.from_residual.ensures.1 in
     rw (p.1, p.2) record {
-      exact = sym (text_refused c.args.text.now c.in-err-check-text.field-0.0 c.in-err-check-text.ensures);
+      exact = sym (text_refused c.args.text.now c.in_err-check_text.field-0.0 c.in_err-check_text.ensures);
       short = tt;
       settled = tt;
       lawful = lawful c.args.text.now;
     }
 
-pub returns-in-err-check-left : goal.returns-in-err-check-left
-returns-in-err-check-left c =
+pub returns-in_err-check_left : goal.returns-in_err-check_left
+returns-in_err-check_left c =
     let text = c.args.text.now in
     let size = long c.spell-len.new.out text c.spell-len.result c.spell-len.ensures.front c.spell-len.ensures.within in
-    let p = err_from_is_err_and c.from-residual-in-err-check-left.result c.from-residual-in-err-check-left.ensures.1 in
+    let p = err_from_is_err_and c.from_residual-in_err-check_left.result c.from_residual-in_err-check_left.ensures.1 in
     rw (p.1, p.2) record {
-      exact = too_much text c.spell-len.result c.in-err-check-left.field-0.0 size c.in-ok-check-text.ensures c.in-err-check-left.ensures;
+      exact = too_much text c.spell-len.result c.in_err-check_left.field-0.0 size c.in_ok-check_text.ensures c.in_err-check_left.ensures;
       short = tt;
       settled = tt;
       lawful = lawful text;
@@ -45,8 +45,8 @@ returns c =
     let text = c.args.text.now in
     let within = c.spell-len.ensures.within in
     let size = long c.spell-len.new.out text c.spell-len.result c.spell-len.ensures.front within in
-    let good = text_passes text c.in-ok-check-text.ensures in
-    let fits = length_passes c.spell-len.result c.in-ok-check-left.ensures in
+    let good = text_passes text c.in_ok-check_text.ensures in
+    let fits = length_passes c.spell-len.result c.in_ok-check_left.ensures in
     let some : 1 ≤ length (spelled text) = rw (← size) fits.0 in
     let few : length (spelled text) ≤ 40 = rw (← size) fits.1 in
     rw (take-append-le c.spell-len.result c.spell-len.new.out _ within, c.spell-len.ensures.front) record {
