@@ -16,10 +16,9 @@ fn refused(reason: Reason) -> i32
     -(reason.number() as i32)
 }
 
-// Settles a text into the front of a buffer, and answers the length, or minus the refusal's number.
-// include/spelling.h declares it for C.
-#[unsafe(no_mangle)]
-pub extern "C" fn spelling_settle(text: &[u8], out: &mut [u8]) -> i32
+// Settles a text into the front of a buffer, and answers the length, or minus the refusal's number. The crate
+// `spelling_c` exports it to C.
+pub fn spelling_settle(text: &[u8], out: &mut [u8]) -> i32
     ensures answer { result ≡ code_of (settle_into (length out.old) text.now) }
     ensures buffer { out.new ≡ buffer_after (settle_into (length out.old) text.now) out.old }
     ensures lawful { Lawful text.now }
