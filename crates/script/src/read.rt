@@ -57,7 +57,7 @@ fn call(heap: Global, name: &[u8], rest: Option<&[u8]>) -> Result<Line, AllocErr
     ensures value { IfOk result (λ l. said l ≡ call_of name.now (option_map (λ x. x.now) rest.entry)) }
     ensures ok { is_settletext name.now ≡ false → is_ok result ≡ true }
 {
-    if name == b"settletext" {
+    if name == b"settletext".as_slice() {
         settle_text(heap, rest)
     } else {
         Ok(Line::Invalid)

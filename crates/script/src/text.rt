@@ -71,7 +71,7 @@ fn is_plain(b: u8) -> bool
 
 // Writes `b` as it is or in an escape.
 fn put_byte<W: fmt::Write>(b: u8, f: &mut fmt::Formatter<W>) -> fmt::Result
-    ensures { WritesOnOk write_str_gives f.old result (escaped_byte b) f.new }
+    ensures { WritesOnOk W.write_str_gives f.old result (escaped_byte b) f.new }
 {
     if is_plain(b) {
         f.write_char(char::from(b))
