@@ -37,7 +37,7 @@ answered returned left part text size long e f =
 
 pub returns : goal.returns
 returns c =
-    let back = c.spelling-settle-returned in
+    let back = c.spelling_settle-returned in
     let fits : SFits w32 back.result = search rules in
     let line : answer_text c.settled.result ≡ settling_answer (settle_into c.args.size c.args.text.now) =
     c.settled.ensures ∙ ap (λ (z : ℤ). settled_line z back.new.out) (to_z-of_z w32 back.result fits) ∙ answered back.result back.new.out _ c.args.text.now c.args.size (length-take-le (c.min.result - 0) _ (omega (arith, c.min.ensures)) ∙ omega (arith, c.min.ensures)) back.ensures.answer back.ensures.buffer in
