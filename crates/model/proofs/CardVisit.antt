@@ -6,7 +6,6 @@ use Rattle.model.specs.declared.Colour.TheVariants.{White}
 use Rattle.model.specs.declared.Phase.{Phase}
 use Rattle.model.specs.declared.Phase.TheVariants.{Cleaning}
 use Rattle.model.specs.Book.{Book, latest}
-use Rattle.model.specs.Cycle.{cleared}
 use Rattle.model.specs.Machine.{Card, Cell, State, card_of, colour, upd, with_cards}
 use Rattle.model.specs.Promise.{Bears}
 use Rattle.model.proofs.Invariant.{Inv, Kept, Live, Spared}

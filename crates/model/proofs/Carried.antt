@@ -4,8 +4,7 @@ use mathlib.Core.Option.{Option, none, some}
 use Rattle.model.specs.declared.Colour.TheVariants.{Black, White}
 use Rattle.model.specs.declared.Phase.{Phase}
 use Rattle.model.specs.declared.Phase.TheVariants.{Cleaning}
-use Rattle.model.specs.Cycle.{cleared}
-use Rattle.model.specs.Machine.{Card, Cell, Job, at, bears, card_of, colour, slots}
+use Rattle.model.specs.Machine.{Card, Cell, Job, at, card_of, colour, slots}
 use Rattle.model.specs.Promise.{Bears}
 use Rattle.model.proofs.Invariant.{CardsOk, Flags, JobOk, Kept, Live, Marked, Marking, Protected, RecOk, RecsOk, StandsFor, marked, via}
 

@@ -5,7 +5,6 @@ use Rattle.model.specs.declared.JobState.TheVariants.{Parked, Running}
 use Rattle.model.specs.declared.Phase.TheVariants.{Normal}
 use Rattle.model.specs.Book.{Book}
 use Rattle.model.specs.Calls.{Action, Call, Spelling, begin, by, close, copy, drop_hand, find, follow, load, make, nod, open_job, park, same, settle, spelling_of, step, store, text, wake}
-use Rattle.model.specs.Cycle.{cleared}
 use Rattle.model.specs.Machine.{State, filed, upd}
 use Rattle.model.specs.Runs.{FreeCell, Picks, Run, Through, World, granted, more, new_world, next, now, standing, start, then}
 use Rattle.model.specs.Tables.{checks, effect, is_on_file, job_checks, job_effect, room, settle_on, settles}

@@ -6,7 +6,7 @@ use Rattle.model.specs.declared.Colour.{Colour}
 use Rattle.model.specs.declared.Colour.TheVariants.{Black}
 use Rattle.model.specs.declared.Phase.{Phase}
 use Rattle.model.specs.Book.{Book, write_slot}
-use Rattle.model.specs.Machine.{Card, Cell, Job, State, at, bears, card_of, colour, free, put, slots, upd, used, with_slot}
+use Rattle.model.specs.Machine.{Card, Cell, Job, State, at, card_of, colour, free, put, slots, upd, used, with_slot}
 use Rattle.model.specs.Promise.{Bears}
 use Rattle.model.specs.Tables.{set_slot}
 use Rattle.model.proofs.Carried.{cards_move, job_move, protected_map}

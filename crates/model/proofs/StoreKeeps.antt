@@ -19,7 +19,6 @@ use Rattle.model.proofs.Invariant.{Flags, Greying, Inv, Kept, Marked, Marking, P
 use Rattle.model.proofs.JobRowsKeep.{running_open}
 use Rattle.model.proofs.PhaseCases.{marking_cases}
 use Rattle.model.proofs.SlotWriteKeeps.{slot_keeps}
-use Rattle.model.proofs.TakingKeeps.{new_kept}
 
 -- an armed job stores over a spared record only where calls grey
 armed_greying : (p : Phase) (cur d : ℕ) (armed owes : Bool) → armed ≡ true → Flags p armed owes → Spared p cur d → Greying p

@@ -7,7 +7,7 @@ use Rattle.model.specs.declared.Colour.TheVariants.{Black, Grey, White}
 use Rattle.model.specs.declared.Phase.TheVariants.{Sweeping}
 use Rattle.model.specs.Book.{Book}
 use Rattle.model.specs.Cycle.{swept, swept_cell}
-use Rattle.model.specs.Machine.{Cell, State, at_phase, bears, card_of, colour, free, is_free, slots, upd, used}
+use Rattle.model.specs.Machine.{Cell, State, at_phase, card_of, colour, free, is_free, slots, upd, used}
 use Rattle.model.specs.Runs.{standing}
 use Rattle.model.proofs.Carried.{Shrinks, cards_move, job_move, leads_move, rec_move}
 use Rattle.model.proofs.Colours.{clash, free_is, free_not}

@@ -7,7 +7,7 @@ use Rattle.model.specs.declared.Colour.TheVariants.{Black, Grey, White}
 use Rattle.model.specs.declared.Phase.{Phase}
 use Rattle.model.specs.declared.Phase.TheVariants.{Arming, Cleaning, Normal, Parting, Repeat, Scanning, Sweeping, Tracing}
 use Rattle.model.specs.Book.{is_named, latest}
-use Rattle.model.specs.Cycle.{cleared, new_colour}
+use Rattle.model.specs.Cycle.{new_colour}
 use Rattle.model.specs.Machine.{Card, Cell, Job, at, bears, card_of, colour, slots, upd, used}
 use Rattle.model.specs.Promise.{Bears}
 use Rattle.model.proofs.Carried.{job_move, protected_map}

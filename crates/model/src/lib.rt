@@ -2,7 +2,6 @@
 //! There is no program here but the enums that the definitions and the code share.
 #![tactic(auto)]
 
-
 ghost use Rattle.model.specs.Promise.{Theorem};
 
 /// The colour of a record, as in any tricolour collector: white is not yet marked, grey is marked and still to be

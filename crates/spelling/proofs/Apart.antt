@@ -1,5 +1,5 @@
 -- No two slashes stand together: as a recursion over the text, and by places.
-use Rattle.std.proofs.Common.{◌≡◌, ℕ, zero, suc, ◌-◌, Bool, true, false, ◌&&◌, List, [], ◌∷◌, get_or, refl, subst, add-one, arith}
+use Rattle.std.proofs.Common.{◌≡◌, ℕ, zero, suc, Bool, true, false, ◌&&◌, List, [], ◌∷◌, get_or, refl, subst, add-one, arith}
 use Rattle.std.proofs.lemmas.Bool.{both_ways, and_from, and_parts, eq-eqb}
 use Rattle.spelling.specs.Settling.{is_slash, trim_left, merge_runs}
 use Rattle.spelling.specs.Settled.{NoRun}

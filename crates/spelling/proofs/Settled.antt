@@ -1,5 +1,5 @@
 -- What is granted is settled, and a settled text is given back.
-use Rattle.std.proofs.Common.{◌≡◌, ℕ, suc, ◌-◌, ◌≤◌, Bool, true, false, List, [], ◌∷◌, map, length, get_or, Ok, refl, ap, ◌∙◌, add-one, arith}
+use Rattle.std.proofs.Common.{◌≡◌, ℕ, suc, ◌≤◌, Bool, true, false, List, [], ◌∷◌, map, length, get_or, Ok, refl, ap, ◌∙◌, add-one, arith}
 use Rattle.std.proofs.lemmas.Bool.{and_from, ne_eqb, eqb-true}
 use Rattle.spelling.specs.Settled.{Printable, NoCapital, NoBackslash, NoRun, Settled}
 use Rattle.spelling.specs.Settling.{allowed, each, is_slash, plain, trim_left, merge_runs, spelled, settle}
