@@ -1,5 +1,5 @@
 /* Settled spellings, for callers in C and C++. Link with target/staticlib/libspelling.a,
-   which `rt staticlib spelling` proves and builds. */
+   which `tools/build spelling` proves and builds. */
 #ifndef SPELLING_H
 #define SPELLING_H
 

@@ -4,7 +4,7 @@ use Rattle.std.specs.Option.{option_map}
 use Rattle.std.specs.Char.{digit_value, digit_char}
 use Rattle.std.specs.List.{flat_map, AllByRecursion}
 
--- `digitValue` counts 0 to 9, then a to z in either case from 10 on, and has 36 for any other byte
+-- `digit_value` counts 0 to 9, then a to z in either case from 10 on, and has 36 for any other byte
 abbrev pub is_hex : ℕ → Bool
 is_hex c = nat_lt (digit_value c) 16
 
@@ -37,7 +37,7 @@ abbrev mutual
 abbrev pub is_plain : ℕ → Bool
 is_plain b = nat_le 32 b && (nat_le b 126 && not (b == 92))
 
--- any other is written with two hex digits in lower case, which `digitChar` gives
+-- any other is written with two hex digits in lower case, which `digit_char` gives
 abbrev pub escaped_byte : ℕ → List ℕ
 escaped_byte b = cond (is_plain b) (b ∷ []) (92 ∷ 120 ∷ digit_char (b / 16) ∷ digit_char (b % 16) ∷ [])
 

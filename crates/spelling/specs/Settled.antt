@@ -1,5 +1,5 @@
 -- What a settled text looks like, said of its bytes alone. 65 to 90 are A to Z, 92 is the backslash, 47 the slash.
--- Past the end of a list `get_or` gives 0, which is none of these.
+-- Past the end of a list `slice_index` gives 0, which is none of these.
 use Rattle.std.specs.Prelude.{◌≡◌, ℕ, ◌+◌, ◌-◌, ◌<◌, ◌≤◌, List, length, ◌≢◌, slice_index}
 
 -- each byte is from 0x20 to 0x7E

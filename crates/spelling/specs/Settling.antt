@@ -21,7 +21,7 @@ is_slash b = b == 47
 abbrev pub forward : ℕ → ℕ
 forward b = cond (b == 92) 47 b
 
--- A to Z become a to z (`lower`, of std), and a backslash becomes a slash
+-- A to Z become a to z (`to_ascii_lowercase`, of std), and a backslash becomes a slash
 abbrev pub plain : ℕ → ℕ
 plain b = forward (to_ascii_lowercase b)
 
