@@ -10,7 +10,7 @@ use Rattle.model.specs.Book.{Book}
 use Rattle.model.specs.Cycle.{grey_if, greyed, repeating}
 use Rattle.model.specs.Machine.{Cell, State, colour, in_phase, is_white, upd}
 use Rattle.model.proofs.Colours.{clash, grey_white, white_is, white_not}
-use Rattle.model.proofs.GreyingKeeps.{All-greyer, Greys, Repeats, Turn, grey_one, greyed_grey, greyer_greyed, greyer_refl, greying_keeps, greys_refl, marked_one, stays, turns}
+use Rattle.model.proofs.GreyingKeeps.{AllGreyer, Greys, Repeats, Turn, grey_one, greyed_grey, greyer_greyed, greyer_refl, greying_keeps, greys_refl, marked_one, stays, turns}
 use Rattle.model.proofs.Invariant.{ColourOk, Greying, Inv, Marked, Spared}
 use Rattle.model.proofs.PhaseCases.{greying_cases, phase_is}
 use Rattle.model.proofs.TableLaws.{upd_elim}
@@ -36,7 +36,7 @@ cells_if t f c = cond t (upd f c (greyed (f c))) f
 abbrev pub phase_if : Bool → Cell → Phase → Phase
 phase_if t x p = cond (t && is_white x) (repeating p) p
 
-pub greyer_if : (t : Bool) (f : ℕ → Cell) (c : ℕ) → All-greyer f (cells_if t f c)
+pub greyer_if : (t : Bool) (f : ℕ → Cell) (c : ℕ) → AllGreyer f (cells_if t f c)
 greyer_if true f c = grey_one f c
 greyer_if false f c = λ d. greyer_refl (f d)
 

@@ -45,14 +45,14 @@ greyer_greyed (used White k l) = record { same_slots = refl; same_card = refl; h
 greyer_greyed (used Grey k l) = greyer_refl _
 greyer_greyed (used Black k l) = greyer_refl _
 
-abbrev pub All-greyer : (ℕ → Cell) → (ℕ → Cell) → Type 0
-All-greyer f g = (d : ℕ) → Greyer (f d) (g d)
+abbrev pub AllGreyer : (ℕ → Cell) → (ℕ → Cell) → Type 0
+AllGreyer f g = (d : ℕ) → Greyer (f d) (g d)
 
-pub grey_one : (f : ℕ → Cell) (c : ℕ) → All-greyer f (upd f c (greyed (f c)))
+pub grey_one : (f : ℕ → Cell) (c : ℕ) → AllGreyer f (upd f c (greyed (f c)))
 grey_one f c d = upd_elim (λ y. Greyer (f d) y) f c d (greyed (f c))
     (λ e. subst (λ (m : ℕ). Greyer (f m) (greyed (f c))) e (greyer_greyed (f c))) (λ n. greyer_refl (f d))
 
-pub grey_list : (f : ℕ → Cell) (l : List ℕ) → All-greyer f (grey_all f l)
+pub grey_list : (f : ℕ → Cell) (l : List ℕ) → AllGreyer f (grey_all f l)
 unfolding grey_all
 grey_list f [] d = greyer_refl (f d)
 grey_list f (v ∷ vs) d = greyer_trans (grey_one f v d) (grey_list (upd f v (greyed (f v))) vs d)
@@ -172,7 +172,7 @@ repeats_uncleaning turns e = cc
 
 -- cells and phase before and after some records were greyed: only spared ones
 pub record Greys (f g : ℕ → Cell) (p q : Phase) (cur : ℕ) : Type 0 where
-  pub greyer : All-greyer f g
+  pub greyer : AllGreyer f g
   pub repeats : Repeats p q
   pub spare : (d : ℕ) → colour (f d) ≡ some White → colour (g d) ≡ some Grey → Spared p cur d
   pub colours : ((d : ℕ) → ColourOk p cur d (colour (f d))) → (d : ℕ) → ColourOk q cur d (colour (g d))

@@ -37,7 +37,7 @@ Marked (some Grey) = Unit {0}
 Marked (some Black) = Unit {0}
 
 -- a protected record will be marked before the commit: it is marked already, or a protected record that is not black
--- leads to it (the weak tricolour invariant, with grey_protected records)
+-- leads to it (the weak tricolour invariant, with grey-protected records)
 pub data Protected (f : ℕ → Cell) : ℕ → Type 0 where
   marked : {c : ℕ} → Marked (colour (f c)) → Protected f c
   via : {q c : ℕ} (i : ℕ) → Protected f q → colour (f q) ≢ some Black → at (slots (f q)) i ≡ c → c ≢ 0 → Protected f c

@@ -3,7 +3,7 @@ use Rattle.std.proofs.Common.{◌≡◌, ℕ, ◌+◌, ◌-◌, ◌≤◌, Bool,
 use Rattle.std.proofs.ByRecursion.{All-take, All-get_or}
 use Rattle.std.proofs.lemmas.List.{take_all, get_or-take, get_or_past, length-take}
 use Rattle.std.proofs.lemmas.Bool.{cases_lt, and_parts, leb-true, ltb-true, ltb-false, eqb-true, eqb-false, both_ways, cond_both}
-use Rattle.std.specs.List.{AllByRecursion as All}
+use Rattle.std.specs.List.{AllByRecursion}
 use Rattle.spelling.specs.Settled.{NoRun, Settled}
 use Rattle.spelling.specs.Settling.{allowed, each, is_slash, plain, trim_left, trim_right, merge_runs, spelled}
 use Rattle.spelling.proofs.Apart.{merged_no_run, merged_no_first}
@@ -29,22 +29,22 @@ clean_plain b h =
     (λ f. let lt = ltb-true b 91 f in clean_forward (b + 32) (omega arith) (omega arith) (λ p q. omega arith))
     (λ f. let ge' = ltb-false b 91 f in clean_forward b low high (λ p q. omega arith)))
 
-all_plain : (t : List ℕ) → each allowed t ≡ true → All Clean (map plain t)
+all_plain : (t : List ℕ) → each allowed t ≡ true → AllByRecursion Clean (map plain t)
 all_plain [] h = tt
 all_plain (b ∷ t) h =
     let parts = and_parts (allowed b) (each allowed t) h in
     (clean_plain b parts.0, all_plain t parts.1)
 
 -- the passes leave bytes out, and add none
-all_cond : (P : ℕ → Type 0) (s : Bool) (xs ys : List ℕ) → All P xs → All P ys → All P (cond s xs ys)
+all_cond : (P : ℕ → Type 0) (s : Bool) (xs ys : List ℕ) → AllByRecursion P xs → AllByRecursion P ys → AllByRecursion P (cond s xs ys)
 all_cond P true xs ys h k = h
 all_cond P false xs ys h k = k
 
-all_trim_left : (P : ℕ → Type 0) (t : List ℕ) → All P t → All P (trim_left t)
+all_trim_left : (P : ℕ → Type 0) (t : List ℕ) → AllByRecursion P t → AllByRecursion P (trim_left t)
 all_trim_left P [] h = tt
 all_trim_left P (b ∷ t) h = all_cond P (is_slash b) (trim_left t) (b ∷ t) (all_trim_left P t h.1) h
 
-all_merge_runs : (P : ℕ → Type 0) (t : List ℕ) → All P t → All P (merge_runs t)
+all_merge_runs : (P : ℕ → Type 0) (t : List ℕ) → AllByRecursion P t → AllByRecursion P (merge_runs t)
 all_merge_runs P [] h = tt
 all_merge_runs P (b ∷ t) h =
     let rest = all_merge_runs P t h.1 in
@@ -80,7 +80,7 @@ front_no_first : (n : ℕ) (bs : List ℕ) → (get_or bs 0 0 ≡ 47 → ⊥) �
 front_no_first n bs none e = ⊎_elim (λ p. none (sym p ∙ e)) (λ p. omega arith) (front_byte n 0 bs)
 
 -- a clean byte, or none
-clean_at : (t : List ℕ) → All Clean t → (k : ℕ) → Clean (get_or t k 0) ⊎ (get_or t k 0 ≡ 0)
+clean_at : (t : List ℕ) → AllByRecursion Clean t → (k : ℕ) → Clean (get_or t k 0) ⊎ (get_or t k 0 ≡ 0)
 clean_at t h k = ⊎_elim (λ lt. inl (All-get_or Clean t k 0 lt h)) (λ le. inr (get_or_past t k 0 le)) (cases_lt k (length t))
 
 pub spelled_settled : (t : List ℕ) → each allowed t ≡ true → 1 ≤ length (spelled t) → length (spelled t) ≤ 40 → Settled (spelled t)
@@ -90,7 +90,7 @@ spelled_settled t h some few =
     let single = merged_no_run (map plain t) in
     let cut = trimmed_by merged single (is_slash (get_or merged (length merged - 1) 0)) refl in
     let front = take cut.size merged in
-    let clean : All Clean front =
+    let clean : AllByRecursion Clean front =
     All-take Clean cut.size merged (all_trim_left Clean (merge_runs (map plain t)) (all_merge_runs Clean (map plain t) (all_plain t h))) in (
       rw cut.front (λ k lt. let b = All-get_or Clean front k 0 lt clean in (b.0, b.1)),
       rw cut.front (λ k p q. ⊎_elim (λ b. b.2 p q) (λ z. omega arith) (clean_at front clean k)),
