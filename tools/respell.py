@@ -24,7 +24,7 @@ PORTED = """alike-end alike-right alike-same all-read allowed-same at-g at-none 
     slot-is slot-ok spelled-same spelled-stays stays-at step-from step-keeps store-keeps stored-last swept-kept
     text-of told-line too-long too-much trim-end upd-other upd-same walk-end with-it word-number zero-is all-plain
     is-plain none-is""".split()
-# a lemma named after a type: the dash joins the two
+# a type of the crate model that this script left as it was; it was renamed by hand, to AllGreyer
 KEPT = {"All-greyer"}
 MADE = ("Answers.antt", "Invariants.antt")
 
