@@ -5,7 +5,7 @@ ghost use Rattle.refusal.specs.Numbers.{number_of};
 
 // Why a call was refused. The discriminants are the numbers that callers see (docs/RULES.md, "Refusals"):
 // 1 to 8 come from the input, 20 to 31 from the state of the store.
-#[derive(Clone, Copy)]
+#[derive(Clone, Copy, Debug, PartialEq, Eq)]
 pub enum Reason {
     TextTooLong = 1,
     ByteNotAllowed = 2,
@@ -29,16 +29,17 @@ pub enum Reason {
     NoCells = 31,
 }
 
-impl Reason {
-    pub fn number(self) -> u8
-        ensures { result ≡ number_of self }
-    {
-        self as u8
+// The number of a refusal.
+impl From<Reason> for u8 {
+    ghost from_gives = { λ reason n. n ≡ number_of reason };
+
+    fn from(reason: Reason) -> u8 {
+        reason as u8
     }
 }
 
 // What a refused call answers. The place is 0, but for a walk that fails on its way (docs/RULES.md, "Refusals").
-#[derive(Clone, Copy)]
+#[derive(Clone, Copy, Debug, PartialEq, Eq)]
 pub struct Refusal {
     pub reason: Reason,
     pub place: u32,

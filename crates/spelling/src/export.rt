@@ -13,7 +13,7 @@ use refusal::Reason;
 fn refused(reason: Reason) -> i32
     ensures { result ≡ neg_ℤ (pos (number_of reason)) }
 {
-    -(reason.number() as i32)
+    -i32::from(u8::from(reason))
 }
 
 // Settles a text into the front of a buffer, and answers the length, or minus the refusal's number. The crate
