@@ -2,8 +2,9 @@
 use Rattle.std.proofs.Common.{◌≡◌, ℕ, ◌+◌, ◌≤◌, Bool, true, false, cond, ◌&&◌, List, [], ◌∷◌, ◌++◌, map, length, sym, refl, ap, ◌∙◌, arith}
 use Rattle.std.proofs.lemmas.List.{map-append, append-nil}
 use Rattle.std.proofs.lemmas.Bool.{le-leb}
+use Rattle.std.specs.List.{list_all}
 use Rattle.spelling.specs.Alike.{Alike, letter, kind, run, left_end, right_end, none, back, then}
-use Rattle.spelling.specs.Settling.{allowed, each, is_slash, plain, trim_left, trim_right, merge_runs, spelled, settle}
+use Rattle.spelling.specs.Settling.{allowed, is_slash, plain, trim_left, trim_right, merge_runs, spelled, settle}
 use Rattle.spelling.proofs.Bytes.{is_allowed, capital_plain, plain_stays}
 use Rattle.spelling.proofs.Squeezing.{squeezed, squeezed_more, trim_left_twice}
 use Rattle.spelling.proofs.Trimming.{trim_right_slash}
@@ -11,7 +12,7 @@ use Rattle.spelling.proofs.Trimming.{trim_right_slash}
 -- two texts that settling cannot tell apart, but for their lengths
 pub record Same (t u : List ℕ) : Type 0 where
   pub spelled_same : spelled t ≡ spelled u
-  pub allowed_same : each allowed t ≡ each allowed u
+  pub allowed_same : list_all allowed t ≡ list_all allowed u
 
 -- a byte is changed for one that reads alike
 spelled_byte : (before after : List ℕ) (a b : ℕ) → plain a ≡ plain b → spelled (before ++ a ∷ after) ≡ spelled (before ++ b ∷ after)
@@ -19,11 +20,11 @@ unfolding spelled
 spelled_byte before after a b e = rw (map-append plain before (a ∷ after), map-append plain before (b ∷ after), e) refl
 
 -- whether all bytes are allowed, after a front that both texts have
-allowed_after : (before t u : List ℕ) → each allowed t ≡ each allowed u → each allowed (before ++ t) ≡ each allowed (before ++ u)
+allowed_after : (before t u : List ℕ) → list_all allowed t ≡ list_all allowed u → list_all allowed (before ++ t) ≡ list_all allowed (before ++ u)
 allowed_after [] t u e = e
 allowed_after (x ∷ before) t u e = ap (λ (r : Bool). allowed x && r) (allowed_after before t u e)
 
-allowed_byte : (before after : List ℕ) (a b : ℕ) → allowed a ≡ allowed b → each allowed (before ++ a ∷ after) ≡ each allowed (before ++ b ∷ after)
+allowed_byte : (before after : List ℕ) (a b : ℕ) → allowed a ≡ allowed b → list_all allowed (before ++ a ∷ after) ≡ list_all allowed (before ++ b ∷ after)
 allowed_byte before after a b e = allowed_after before (a ∷ after) (b ∷ after) (rw e refl)
 
 -- a slash more or less in a run
@@ -63,8 +64,8 @@ spelled_right t =
     let end = squeezed_end true (map plain t) in
     rw (map-append plain t (47 ∷ [])) (ap trim_right end.1 ∙ trim_end (trim_left (merge_runs (map plain t))) end.0)
 
-allowed_right : (t : List ℕ) → each allowed (t ++ 47 ∷ []) ≡ each allowed t
-allowed_right t = allowed_after t (47 ∷ []) [] refl ∙ ap (each allowed) (append-nil t)
+allowed_right : (t : List ℕ) → list_all allowed (t ++ 47 ∷ []) ≡ list_all allowed t
+allowed_right t = allowed_after t (47 ∷ []) [] refl ∙ ap (list_all allowed) (append-nil t)
 
 pub alike_same : {t u : List ℕ} → Alike t u → Same t u
 alike_same (letter before after b low high) =

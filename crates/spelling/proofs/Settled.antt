@@ -1,8 +1,9 @@
 -- What is granted is settled, and a settled text is given back.
 use Rattle.std.proofs.Common.{◌≡◌, ℕ, suc, ◌≤◌, Bool, true, false, List, [], ◌∷◌, map, length, get_or, Ok, refl, ap, ◌∙◌, add-one, arith}
 use Rattle.std.proofs.lemmas.Bool.{and_from, ne_eqb, eqb-true}
+use Rattle.std.specs.List.{list_all}
 use Rattle.spelling.specs.Settled.{Printable, NoCapital, NoBackslash, NoRun, Settled}
-use Rattle.spelling.specs.Settling.{allowed, each, is_slash, plain, trim_left, merge_runs, spelled, settle}
+use Rattle.spelling.specs.Settling.{allowed, is_slash, plain, trim_left, merge_runs, spelled, settle}
 use Rattle.spelling.proofs.Bytes.{is_allowed, plain_stays}
 use Rattle.spelling.proofs.Cases.{granted, grants}
 use Rattle.spelling.proofs.Shape.{spelled_settled}
@@ -14,11 +15,11 @@ grants_settled t s e =
     rw g.is_spelled (spelled_settled t g.good g.some g.few)
 
 -- each pass leaves a settled text as it is
-all_allowed : (t : List ℕ) → Printable t → each allowed t ≡ true
+all_allowed : (t : List ℕ) → Printable t → list_all allowed t ≡ true
 all_allowed [] h = refl
 all_allowed (b ∷ t) h =
     let here = h 0 (omega arith) in
-    and_from (allowed b) (each allowed t) (is_allowed b here.0 here.1) (all_allowed t (λ k lt. h (suc k) (omega arith)))
+    and_from (allowed b) (list_all allowed t) (is_allowed b here.0 here.1) (all_allowed t (λ k lt. h (suc k) (omega arith)))
 
 map_stays : (t : List ℕ) → NoCapital t → NoBackslash t → map plain t ≡ t
 map_stays [] small straight = refl
@@ -43,11 +44,11 @@ merge_stays (b ∷ t) single = merge_stays_by b t (is_slash b) refl single (merg
 spelled_stays : (t : List ℕ) → Settled t → spelled t ≡ t
 unfolding spelled
 spelled_stays t h =
-    rw (map_stays t h.1 h.2, merge_stays t h.3, trim_left_stays t h.4.0) (trim_right_stays t (ne_eqb _ 47 h.4.1))
+    rw (map_stays t h.lower_case h.forward, merge_stays t h.merged, trim_left_stays t h.trimmed.0) (trim_right_stays t (ne_eqb _ 47 h.trimmed.1))
 
 pub gives_back : (t : List ℕ) → Settled t → settle t ≡ Ok t
 gives_back t h =
     let same = spelled_stays t h in
-    let some : 1 ≤ length (spelled t) = rw same h.5.0 in
-    let few : length (spelled t) ≤ 40 = rw same h.5.1 in
-    grants t (omega (arith, h.5.1)) (all_allowed t h.0) some few ∙ ap (λ (l : List ℕ). Ok l) same
+    let some : 1 ≤ length (spelled t) = rw same h.some in
+    let few : length (spelled t) ≤ 40 = rw same h.few in
+    grants t (omega (arith, h.few)) (all_allowed t h.printable) some few ∙ ap (λ (l : List ℕ). Ok l) same

@@ -2,10 +2,10 @@
 use Rattle.std.proofs.Common.{◌≡◌, ℕ, ◌+◌, ◌-◌, ◌≤◌, Bool, true, false, cond, eqb, ltb, leb, ◌⊎◌, List, [], ◌∷◌, map, length, get_or, take, sym, refl, ◌∙◌, inl, inr, ⊎_elim, arith}
 use Rattle.std.proofs.ByRecursion.{All-take, All-get_or}
 use Rattle.std.proofs.lemmas.List.{take_all, get_or-take, get_or_past, length-take}
-use Rattle.std.proofs.lemmas.Bool.{cases_lt, and_parts, leb-true, ltb-true, ltb-false, eqb-true, eqb-false, both_ways, cond_both}
-use Rattle.std.specs.List.{AllByRecursion}
+use Rattle.std.proofs.lemmas.Bool.{cases_lt, and_parts, leb-true, ltb-true, ltb-false, eqb-true, eqb-false, cond_both}
+use Rattle.std.specs.List.{AllByRecursion, list_all}
 use Rattle.spelling.specs.Settled.{NoRun, Settled}
-use Rattle.spelling.specs.Settling.{allowed, each, is_slash, plain, trim_left, trim_right, merge_runs, spelled}
+use Rattle.spelling.specs.Settling.{allowed, is_slash, plain, trim_left, trim_right, merge_runs, spelled}
 use Rattle.spelling.proofs.Apart.{merged_no_run, merged_no_first}
 use Rattle.spelling.proofs.Trimming.{trim_right_stays, trim_right_once, before_slash}
 
@@ -29,10 +29,10 @@ clean_plain b h =
     (λ f. let lt = ltb-true b 91 f in clean_forward (b + 32) (omega arith) (omega arith) (λ p q. omega arith))
     (λ f. let ge' = ltb-false b 91 f in clean_forward b low high (λ p q. omega arith)))
 
-all_plain : (t : List ℕ) → each allowed t ≡ true → AllByRecursion Clean (map plain t)
+all_plain : (t : List ℕ) → list_all allowed t ≡ true → AllByRecursion Clean (map plain t)
 all_plain [] h = tt
 all_plain (b ∷ t) h =
-    let parts = and_parts (allowed b) (each allowed t) h in
+    let parts = and_parts (allowed b) (list_all allowed t) h in
     (clean_plain b parts.0, all_plain t parts.1)
 
 -- the passes leave bytes out, and add none
@@ -60,12 +60,9 @@ trimmed_by : (bs : List ℕ) → NoRun bs → (s : Bool) → is_slash (get_or bs
 trimmed_by bs single false e =
     let same = trim_right_stays bs e in
     record { size = length bs; front = same ∙ sym (take_all (length bs) bs (omega arith)); last = rw same e }
-trimmed_by [] single true e = absurd (both_ways false refl e)
-trimmed_by (b ∷ bs) single true e =
-    let at : length (b ∷ bs) - 1 ≡ length bs = omega arith in
-    let slash : get_or (b ∷ bs) (length bs) 0 ≡ 47 = eqb-true (get_or (b ∷ bs) (length bs) 0) 47 (rw at at e) in
-    let cut = trim_right_once (b ∷ bs) (length bs) single (omega arith) slash in
-    record { size = length bs; front = cut; last = rw cut (before_slash (b ∷ bs) (length bs) single (omega arith) slash) }
+trimmed_by bs single true e =
+    let cut = trim_right_once bs single e in
+    record { size = length bs - 1; front = cut; last = rw cut (before_slash bs (length bs - 1) single (omega arith) (eqb-true _ 47 e)) }
 
 -- a byte of a front is that byte of the text, or past the front
 front_byte : (n k : ℕ) (bs : List ℕ) → (get_or (take n bs) k 0 ≡ get_or bs k 0) ⊎ (get_or (take n bs) k 0 ≡ 0)
@@ -83,7 +80,7 @@ front_no_first n bs none e = ⊎_elim (λ p. none (sym p ∙ e)) (λ p. omega ar
 clean_at : (t : List ℕ) → AllByRecursion Clean t → (k : ℕ) → Clean (get_or t k 0) ⊎ (get_or t k 0 ≡ 0)
 clean_at t h k = ⊎_elim (λ lt. inl (All-get_or Clean t k 0 lt h)) (λ le. inr (get_or_past t k 0 le)) (cases_lt k (length t))
 
-pub spelled_settled : (t : List ℕ) → each allowed t ≡ true → 1 ≤ length (spelled t) → length (spelled t) ≤ 40 → Settled (spelled t)
+pub spelled_settled : (t : List ℕ) → list_all allowed t ≡ true → 1 ≤ length (spelled t) → length (spelled t) ≤ 40 → Settled (spelled t)
 unfolding spelled
 spelled_settled t h some few =
     let merged = trim_left (merge_runs (map plain t)) in
@@ -91,11 +88,13 @@ spelled_settled t h some few =
     let cut = trimmed_by merged single (is_slash (get_or merged (length merged - 1) 0)) refl in
     let front = take cut.size merged in
     let clean : AllByRecursion Clean front =
-    All-take Clean cut.size merged (all_trim_left Clean (merge_runs (map plain t)) (all_merge_runs Clean (map plain t) (all_plain t h))) in (
-      rw cut.front (λ k lt. let b = All-get_or Clean front k 0 lt clean in (b.0, b.1)),
-      rw cut.front (λ k p q. ⊎_elim (λ b. b.2 p q) (λ z. omega arith) (clean_at front clean k)),
-      rw cut.front (λ k e. ⊎_elim (λ b. b.3 e) (λ z. omega arith) (clean_at front clean k)),
-      rw cut.front (front_no_run cut.size merged single),
-      (rw cut.front (front_no_first cut.size merged (merged_no_first (map plain t))), eqb-false _ 47 cut.last),
-      (some, few),
-    )
+    All-take Clean cut.size merged (all_trim_left Clean (merge_runs (map plain t)) (all_merge_runs Clean (map plain t) (all_plain t h))) in
+    record {
+      printable = rw cut.front (λ k lt. let b = All-get_or Clean front k 0 lt clean in (b.0, b.1));
+      lower_case = rw cut.front (λ k p q. ⊎_elim (λ b. b.2 p q) (λ z. omega arith) (clean_at front clean k));
+      forward = rw cut.front (λ k e. ⊎_elim (λ b. b.3 e) (λ z. omega arith) (clean_at front clean k));
+      merged = rw cut.front (front_no_run cut.size merged single);
+      trimmed = (rw cut.front (front_no_first cut.size merged (merged_no_first (map plain t))), eqb-false _ 47 cut.last);
+      some = some;
+      few = few;
+    }

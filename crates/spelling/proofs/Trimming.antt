@@ -1,7 +1,7 @@
 -- Trimming the right end, one byte at a time and in a text in which no two slashes stand together.
 use Rattle.std.proofs.Common.{◌≡◌, ℕ, zero, suc, ◌+◌, ◌-◌, ◌≤◌, true, false, List, [], ◌∷◌, ◌++◌, reverse, length, get_or, take, sym, refl, ap, ◌∙◌, add-one, arith}
 use Rattle.std.proofs.lemmas.List.{reverse-append, reverse-reverse, take_more, take_all, length-take-le, get_or-take}
-use Rattle.std.proofs.lemmas.Bool.{ne_eqb}
+use Rattle.std.proofs.lemmas.Bool.{ne_eqb, eqb-true}
 use Rattle.spelling.specs.Settling.{is_slash, trim_right}
 use Rattle.spelling.specs.Settled.{NoRun}
 
@@ -37,9 +37,14 @@ pub before_slash : (bs : List ℕ) (n : ℕ) → NoRun bs → n ≤ length bs �
 before_slash bs zero single in' e = refl
 before_slash bs (suc n) single in' e = rw (last_of_front bs n in') (ne_eqb (get_or bs n 0) 47 (λ h. single n h (rw add-one e)))
 
--- where no two slashes stand together, one step trims the right end
-pub trim_right_once : (bs : List ℕ) (n : ℕ) → NoRun bs → length bs ≡ n + 1 → get_or bs n 0 ≡ 47 → trim_right bs ≡ take n bs
-trim_right_once bs n single long e =
-    ap trim_right (last_apart bs n long)
-    ∙ trim_right_slash (take n bs) (get_or bs n 0) (rw e refl)
-    ∙ trim_right_stays (take n bs) (before_slash bs n single (omega arith) e)
+-- where no two slashes stand together, a slash at the right end is all that the trimming takes
+pub trim_right_once : (bs : List ℕ) → NoRun bs → is_slash (get_or bs (length bs - 1) 0) ≡ true → trim_right bs ≡ take (length bs - 1) bs
+trim_right_once [] single e = refl
+trim_right_once (b ∷ bs) single e =
+    let n = length bs in
+    let at : length (b ∷ bs) - 1 ≡ n = omega arith in
+    let slash : is_slash (get_or (b ∷ bs) n 0) ≡ true = rw at at e in
+    rw at (
+    ap trim_right (last_apart (b ∷ bs) n (omega arith))
+    ∙ trim_right_slash (take n (b ∷ bs)) (get_or (b ∷ bs) n 0) slash
+    ∙ trim_right_stays (take n (b ∷ bs)) (before_slash (b ∷ bs) n single (omega arith) (eqb-true _ 47 slash)))

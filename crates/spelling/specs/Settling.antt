@@ -1,18 +1,14 @@
 -- Settling a text: the one spelling under which a path is filed. Texts are lists of bytes; 92 is the backslash, 47 the
 -- slash.
-use Rattle.std.specs.Prelude.{ℕ, Bool, true, cond, ◌&&◌, List, [], ◌∷◌, map, reverse, length, Ok, Err, Result, ◌==◌, nat_le}
+use Rattle.std.specs.Prelude.{ℕ, Bool, cond, ◌&&◌, List, [], ◌∷◌, map, reverse, length, Ok, Err, Result, ◌==◌, nat_le}
 use Rattle.std.specs.Char.{to_ascii_lowercase}
+use Rattle.std.specs.List.{list_all}
 use Rattle.refusal.specs.declared.Reason.{Reason}
 use Rattle.refusal.specs.declared.Reason.TheVariants.{TextTooLong, ByteNotAllowed, SettledEmpty, SettledTooLong, BufferTooShort}
 
 -- the bytes that a text may hold: 0x20 to 0x7E
 abbrev pub allowed : ℕ → Bool
 allowed b = nat_le 32 b && nat_le b 126
-
--- whether each byte passes a test
-abbrev pub each : (ℕ → Bool) → List ℕ → Bool
-each test [] = true
-each test (b ∷ bs) = test b && each test bs
 
 abbrev pub is_slash : ℕ → Bool
 is_slash b = b == 47
@@ -49,7 +45,7 @@ ask passed reason next = cond passed next (Err reason)
 
 -- the limits on a text, and those on the length of what is left of it
 abbrev pub text_limits : {X : Type 0} → List ℕ → Result X Reason → Result X Reason
-text_limits text next = ask (nat_le (length text) 120) TextTooLong (ask (each allowed text) ByteNotAllowed next)
+text_limits text next = ask (nat_le (length text) 120) TextTooLong (ask (list_all allowed text) ByteNotAllowed next)
 
 abbrev pub length_limits : {X : Type 0} → ℕ → Result X Reason → Result X Reason
 length_limits n next = ask (nat_le 1 n) SettledEmpty (ask (nat_le n 40) SettledTooLong next)

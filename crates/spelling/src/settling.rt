@@ -1,13 +1,84 @@
-// The routine that both faces stand on, and the face for Rust.
-ghost use Rattle.std.specs.Prelude.{◌≡◌, ◌≤◌, take, IfOk, Ok};
-ghost use Rattle.spelling.specs.Faces.{front_of, text_of, told};
+// The rule of settling, and its limits (docs/RULES.md, "Settled spellings").
+ghost use Rattle.std.specs.Prelude.{◌≡◌, ◌≤◌, ◌-◌, ◌&&◌, map, length, slice_index, IfOk, Ok};
+ghost use Rattle.std.specs.List.{list_all};
+ghost use Rattle.spelling.specs.Faces.{map_ok, buffer_after};
 ghost use Rattle.spelling.specs.Laws.{Lawful};
 ghost use Rattle.spelling.specs.Settled.{Settled};
-ghost use Rattle.spelling.specs.Settling.{text_limits, length_limits, settle};
+ghost use Rattle.spelling.specs.Settling.{allowed, is_slash, plain, merge_runs, trim_left, spelled, text_limits, length_limits, settle, settle_into};
 
-use super::passes::{all_allowed, spell};
 use super::{LONGEST_SPELLING, LONGEST_TEXT, Spelling};
+use arrayvec::ArrayVec;
 use refusal::Reason;
+
+// Whether a text may hold a byte.
+fn is_allowed(b: u8) -> bool
+    ensures { result ≡ allowed b }
+{
+    matches!(b, 0x20..=0x7e)
+}
+
+// Whether a text may hold each of its bytes.
+fn all_allowed(text: &[u8]) -> bool
+    ensures { result ≡ list_all allowed text.now }
+{
+    text.iter().all(|b| is_allowed(*b))
+}
+
+// A byte in lower case, with a slash for a backslash.
+fn plain_byte(b: u8) -> u8
+    ensures { result ≡ plain b }
+{
+    match b.to_ascii_lowercase() {
+        b'\\' => b'/',
+        lower => lower,
+    }
+}
+
+// Whether a byte goes: a slash that follows another.
+fn goes(slash: bool, after_slash: bool) -> bool
+    ensures { result ≡ (slash && after_slash) }
+{
+    slash & after_slash
+}
+
+// A text in lower case, with slashes for backslashes, one slash for each run of them, and none at the left end.
+fn squeezed(text: &[u8]) -> ArrayVec<u8, LONGEST_TEXT>
+    requires { length text.now ≤ 120 }
+    ensures { result.items ≡ trim_left (merge_runs (map plain text.now)) }
+{
+    let mut left = ArrayVec::new();
+    // As if a slash stood before the text, so that those at the left end go.
+    let mut after_slash = true;
+    for b in text {
+        let b = plain_byte(*b);
+        let slash = b == b'/';
+        if !goes(slash, after_slash) {
+            left.push(b);
+        }
+        after_slash = slash;
+    }
+    left
+}
+
+// Whether a slash stands at the right end.
+fn ends_in_slash(text: &[u8]) -> bool
+    ensures { result ≡ is_slash (slice_index text.now (length text.now - 1)) }
+{
+    text.last() == Some(&b'/')
+}
+
+// What the rule leaves of a text.
+fn spelled(text: &[u8]) -> ArrayVec<u8, LONGEST_TEXT>
+    requires { length text.now ≤ 120 }
+    ensures { result.items ≡ spelled text.now }
+{
+    let mut left = squeezed(text);
+    // Of a run of slashes at the right end one is left.
+    if ends_in_slash(&left) {
+        left.pop();
+    }
+    left
+}
 
 // The limits on a text.
 fn check_text(text: &[u8]) -> Result<(), Reason>
@@ -35,49 +106,42 @@ fn check_left(len: usize) -> Result<(), Reason>
     Ok(())
 }
 
-// Settles a text at the front of an array, and answers its length.
-pub(super) fn settle_front(text: &[u8], front: &mut [u8; LONGEST_TEXT]) -> Result<usize, Reason>
-    ensures exact { front_of front.new result ≡ settle text.now }
-    ensures short { IfOk result (λ n. (1 ≤ n) × (n ≤ 40)) }
-    ensures settled { IfOk result (λ n. Settled (take n front.new)) }
-    ensures lawful { Lawful text.now }
+// The settled text.
+#[tactic(auto, unfolding(crate::specs::Settling::settle))]
+fn settled(text: &[u8]) -> Result<ArrayVec<u8, LONGEST_TEXT>, Reason>
+    ensures value { map_ok (λ left. left.items) result ≡ settle text.now }
+    ensures settled { IfOk result (λ left. Settled left.items) }
 {
     check_text(text)?;
-    let len = spell(text, &mut front[0..text.len()]);
-    check_left(len)?;
-    Ok(len)
+    let left = spelled(text);
+    check_left(left.len())?;
+    Ok(left)
 }
 
 impl Spelling {
-    // The spelling at the front of an array.
-    fn at_front(front: &[u8; LONGEST_TEXT], len: usize) -> Spelling
-        requires some { 1 ≤ len }
-        requires few { len ≤ 40 }
-        requires settled { Settled (take len front.now) }
-        ensures { text_of result ≡ take len front.now }
-    {
-        let mut bytes = [0; LONGEST_SPELLING];
-        bytes.copy_from_slice(&front[0..LONGEST_SPELLING]);
-        Spelling {
-            bytes,
-            len: len as u8,
-        }
-    }
-
     // Settles a text: its spelling, or why it has none.
+    #[tactic(auto, using(crate::proofs::Changes::lawful))]
     pub fn settle(text: &[u8]) -> Result<Spelling, Reason>
-        ensures exact { told result ≡ settle text.now }
+        ensures exact { result ≡ settle text.now }
         ensures lawful { Lawful text.now }
     {
-        let mut front = [0; LONGEST_TEXT];
-        let len = settle_front(text, &mut front)?;
-        Ok(Spelling::at_front(&front, len))
+        Ok(Spelling::from_settled(&settled(text)?))
     }
+}
 
-    // The text of the spelling, 1 to 40 bytes.
-    pub fn as_bytes(&self) -> &[u8]
-        ensures { result.now ≡ text_of self.now }
-    {
-        &self.bytes[0..self.len as usize]
+// Settles a text into the front of a buffer, and answers the length.
+// A length, and not the slice: a slice lent from `out` would leave a clause no plain word for the buffer afterwards.
+#[tactic(auto, using(crate::proofs::Changes::lawful))]
+pub fn settle_into(text: &[u8], out: &mut [u8]) -> Result<usize, Reason>
+    ensures length { result ≡ map_ok length (settle_into (length out.old) text.now) }
+    ensures buffer { out.new ≡ buffer_after (settle_into (length out.old) text.now) out.old }
+    ensures lawful { Lawful text.now }
+{
+    let left = settled(text)?;
+    if out.len() < LONGEST_SPELLING {
+        return Err(Reason::BufferTooShort);
     }
+    let len = left.len();
+    out[..len].copy_from_slice(&left);
+    Ok(len)
 }

@@ -1,0 +1,50 @@
+// The type of settled spellings.
+ghost use Rattle.std.specs.Prelude.{◌≡◌};
+ghost use Rattle.spelling.specs.Settled.{Settled};
+
+use super::LONGEST_SPELLING;
+use std::marker::Model;
+
+// A settled spelling, the one form under which a path is filed. A clause sees it as its text; the invariant says that
+// no value of it can be anything else.
+#[derive(Clone, Copy, PartialEq, Eq)]
+pub struct Spelling {
+    bytes: [u8; LONGEST_SPELLING],
+    len: u8,
+}
+
+impl Model for Spelling {
+    ghost use Rattle.std.specs.Prelude.{◌≡◌, ℕ, ◌-◌, ◌≤◌, List, ◌++◌, length, take, replicate};
+    ghost use Rattle.spelling.specs.Settled.{Settled};
+
+    ghost Value = { List ℕ };
+
+    ghost view = { λ s. take s.len s.bytes };
+
+    ghost invariant = { λ s. Settled (take s.len s.bytes) × (s.bytes ≡ take s.len s.bytes ++ replicate (40 - s.len) 0) × (s.len ≡ length (take s.len s.bytes)) };
+
+    ghost inverse = { λ text. record { bytes = text ++ replicate (40 - length text) 0; len = length text } };
+}
+
+impl Spelling {
+    // The spelling that a settled text is.
+    pub(super) fn from_settled(text: &[u8]) -> Spelling
+        requires { Settled text.now }
+        ensures { result ≡ text.now }
+    {
+        let mut bytes = [0; LONGEST_SPELLING];
+        bytes[..text.len()].copy_from_slice(text);
+        Spelling {
+            bytes,
+            len: text.len() as u8,
+        }
+    }
+
+    // The text of the spelling, 1 to 40 bytes.
+    pub fn as_bytes(&self) -> &[u8]
+        ensures text { result.now ≡ self.now }
+        ensures settled { Settled result.now }
+    {
+        &self.bytes[..usize::from(self.len)]
+    }
+}
