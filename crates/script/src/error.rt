@@ -1,0 +1,21 @@
+// Why a line gave nothing.
+ghost use Rattle.std.specs.Prelude.{◌≡◌, alloc_error};
+ghost use Rattle.script.specs.declared.error.LineError.TheVariants.{OutOfMemory};
+
+use std::alloc::{AllocError, AllocFailed};
+
+#[derive(Clone, Copy, Debug, PartialEq, Eq)]
+pub enum LineError {
+    // The line can't be read.
+    Invalid,
+    OutOfMemory(AllocError),
+}
+
+// The error of a `push`.
+impl<T: Drop> From<AllocFailed<T>> for LineError {
+    ghost from_gives = { λ _ e. e ≡ OutOfMemory alloc_error };
+
+    fn from(failed: AllocFailed<T>) -> LineError {
+        LineError::OutOfMemory(failed.into())
+    }
+}
