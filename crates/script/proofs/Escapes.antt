@@ -1,10 +1,11 @@
 -- Reading text with escapes, byte by byte.
-use Rattle.std.proofs.Common.{◌≡◌, ℕ, ◌+◌, ◌*◌, ◌/◌, ◌%◌, ◌<◌, Bool, true, false, cond, ◌&&◌, eqb, leb, List, [], ◌∷◌, ◌++◌, length, Some, None, Option, sym, refl, ap, ◌∙◌, append_assoc, append-nil, arith}
+use Rattle.std.proofs.Common.{◌≡◌, ℕ, ◌+◌, ◌*◌, ◌/◌, ◌%◌, ◌<◌, false, eqb, leb, List, [], ◌∷◌, ◌++◌, Some, None, Option, sym, refl, ap, ◌∙◌, append_assoc, arith}
 use Rattle.std.specs.Option.{option_map}
 use Rattle.std.specs.Char.{digit_value, digit_char}
-use Rattle.std.proofs.lemmas.Bool.{ne_eqb, lt-ltb, and_from, and_parts, not-true, cond_both}
+use Rattle.std.proofs.lemmas.Bool.{ne_eqb, lt-ltb, and_parts, not-true, cond_both}
 use Rattle.std.proofs.lemmas.Str.{digit_value-digit_char}
-use Rattle.script.specs.Escapes.{is_hex, hex_value, prepended, unescaped, after_backslash, is_plain, escaped_byte, escaped, Bytes}
+use Rattle.std.proofs.lemmas.List.Elements.{All-head, All-tail}
+use Rattle.script.specs.Escapes.{prepended, unescaped, after_backslash, is_plain, escaped_byte, escaped, Bytes}
 
 -- what was read, before what the rest stands for
 abbrev pub onto : List ℕ → Option (List ℕ) → Option (List ℕ)
@@ -33,4 +34,4 @@ byte_back b t small =
 
 pub undoes : (bs : List ℕ) → Bytes bs → unescaped (escaped bs) ≡ Some bs
 undoes [] all = refl
-undoes (b ∷ bs) all = byte_back b (escaped bs) all.0 ∙ ap (prepended b) (undoes bs all.1)
+undoes (b ∷ bs) all = byte_back b (escaped bs) (All-head (λ c. c < 256) b bs all) ∙ ap (prepended b) (undoes bs (All-tail (λ c. c < 256) b bs all))

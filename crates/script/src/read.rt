@@ -30,7 +30,7 @@ fn settle_text(alloc: Global, rest: Option<&[u8]>) -> Result<Call, LineError>
 }
 
 // A call by its name, the first word of its line.
-fn call(alloc: Global, cut: Cut<'_>) -> Result<Call, LineError>
+fn read_call(alloc: Global, cut: Cut<'_>) -> Result<Call, LineError>
     ensures value { ReadsCall result (call_of cut.entry.word.now (option_map (λ x. x.now) cut.entry.rest)) }
     ensures memory { is_settletext cut.entry.word.now ≡ false → result ≢ Err (LineError.OutOfMemory alloc_error) }
 {
@@ -49,7 +49,7 @@ pub fn read_line(alloc: Global, line: &[u8]) -> Result<Option<Call>, LineError>
 {
     match line.first() {
         None | Some(b'#') => Ok(None),
-        Some(_) => Ok(Some(call(alloc, cut_word(line))?)),
+        Some(_) => Ok(Some(read_call(alloc, cut_word(line))?)),
     }
 }
 

@@ -79,3 +79,18 @@ impl fmt::Display for Escaped<'_> {
         Ok(())
     }
 }
+
+#[cfg(test)]
+mod tests {
+    use super::*;
+    use std::test::Fail;
+
+    #[test]
+    fn unescapes(rt: HostRuntime) -> Result<(), Fail> {
+        let alloc = rt.alloc();
+        let bytes = unescape(alloc, b"a\\\\\\xfF~")?;
+        assert_eq!(rt; bytes.as_slice(), b"a\\\xff~".as_slice());
+        assert_eq!(rt; unescape(alloc, b"\\x4"), Err(LineError::Invalid));
+        Ok(())
+    }
+}

@@ -1,6 +1,6 @@
 use Rattle.std.proofs.Common.{◌≡◌, codes, arith, rules}
 use Rattle.std.proofs.lemmas.Slice.Eq.{text_from_reads}
-use Rattle.script.proofs.read.call.Goals as goal
+use Rattle.script.proofs.read.read_call.Goals as goal
 
 pub returns-in-settletext : goal.returns-in-settletext
 returns-in-settletext c =
