@@ -1,30 +1,18 @@
--- The search for the first space.
-use Rattle.std.proofs.Common.{◌≡◌, ℕ, ◌+◌, ◌<◌, ◌≤◌, true, false, cond, eqb, List, [], ◌∷◌, ◌++◌, length, get_or, take, drop, Some, None, sym, ap, ◌∙◌, append_assoc, append-nil}
-use Rattle.std.proofs.lemmas.List.{at_drop_more, at_drop_all, take_more, take_all}
+-- A line's first word, by the place of its first space.
+use Rattle.std.proofs.Common.{◌≡◌, ◌≢◌, ℕ, zero, suc, ◌+◌, ◌<◌, List, [], ◌∷◌, length, get_or, take, drop, Some, None, All, refl, ap, suc-add, arith}
 use Rattle.std.proofs.lemmas.Bool.{eq-eqb, ne_eqb}
+use Rattle.std.proofs.lemmas.List.Elements.{All-head, All-tail}
 use Rattle.script.specs.Words.{first_word, after_word}
 
--- no space stands before index i
-pub record Passed (s : List ℕ) (i : ℕ) : Type 0 where
-  pub word : first_word s ≡ take i s ++ first_word (drop i s)
-  pub rest : after_word s ≡ after_word (drop i s)
+pub at_space : (s : List ℕ) (i : ℕ) → i < length s → get_or s i 0 ≡ 32 → ((k : ℕ) → k < i → get_or s k 0 ≢ 32) → (take i s ≡ first_word s) × (Some (drop (i + 1) s) ≡ after_word s)
+at_space [] i inside here before = absurd (omega arith)
+at_space (b ∷ bs) zero inside here before = rw (eq-eqb b 32 here) (refl, refl)
+at_space (b ∷ bs) (suc i) inside here before =
+    let later = at_space bs i (omega arith) here (λ k below. before (suc k) (omega arith)) in
+    rw (ne_eqb b 32 (before 0 (omega arith)), suc-add) (ap (λ l. b ∷ l) later.0, later.1)
 
-pub passed_more : (s : List ℕ) (i : ℕ) → i < length s → (get_or s i 0 ≡ 32 → ⊥) → Passed s i → Passed s (i + 1)
-passed_more s i h ne p =
-    let e : eqb (get_or s i 0) 32 ≡ false = ne_eqb _ _ ne in
-    let w : first_word (drop i s) ≡ cond (eqb (get_or s i 0) 32) [] (get_or s i 0 ∷ first_word (drop (i + 1) s)) = at_drop_more first_word s i 0 h in
-    let a : after_word (drop i s) ≡ cond (eqb (get_or s i 0) 32) (Some (drop (i + 1) s)) (after_word (drop (i + 1) s)) = at_drop_more after_word s i 0 h in
-    record {
-      word = p.word ∙ ap (λ l. take i s ++ l) (w ∙ rw e) ∙ sym (append_assoc (take i s) (get_or s i 0 ∷ []) (first_word (drop (i + 1) s))) ∙ ap (λ l. l ++ first_word (drop (i + 1) s)) (sym (take_more s i 0 h));
-      rest = p.rest ∙ a ∙ rw e;
-    }
-
-pub at_space : (s : List ℕ) (i : ℕ) → i < length s → get_or s i 0 ≡ 32 → Passed s i → (take i s ≡ first_word s) × (Some (drop (i + 1) s) ≡ after_word s)
-at_space s i h is p =
-    let e : eqb (get_or s i 0) 32 ≡ true = eq-eqb _ _ is in
-    let w : first_word (drop i s) ≡ cond (eqb (get_or s i 0) 32) [] (get_or s i 0 ∷ first_word (drop (i + 1) s)) = at_drop_more first_word s i 0 h in
-    let a : after_word (drop i s) ≡ cond (eqb (get_or s i 0) 32) (Some (drop (i + 1) s)) (after_word (drop (i + 1) s)) = at_drop_more after_word s i 0 h in
-    (sym (append-nil (take i s)) ∙ ap (λ l. take i s ++ l) (sym (w ∙ rw e)) ∙ sym p.word, sym (p.rest ∙ a ∙ rw e))
-
-pub at_end : (s : List ℕ) (i : ℕ) → length s ≤ i → Passed s i → (s ≡ first_word s) × (None ≡ after_word s)
-at_end s i h p = (sym (take_all i s h) ∙ sym (append-nil (take i s)) ∙ ap (λ l. take i s ++ l) (sym (at_drop_all first_word s i h)) ∙ sym p.word, sym (p.rest ∙ at_drop_all after_word s i h))
+pub no_space : (s : List ℕ) → All (λ b. b ≢ 32) s → (s ≡ first_word s) × (None ≡ after_word s)
+no_space [] none = (refl, refl)
+no_space (b ∷ bs) none =
+    let later = no_space bs (All-tail (λ b. b ≢ 32) b bs none) in
+    rw (ne_eqb b 32 (All-head (λ b. b ≢ 32) b bs none)) (ap (λ l. b ∷ l) later.0, later.1)

@@ -1,45 +1,49 @@
 -- What `parse` reads, in the words of the format.
-use Rattle.std.proofs.Common.{◌≡◌, ℕ, ◌^◌, ◌<◌, true, false, ◌&&◌, eqb, ltb, List, [], ◌∷◌, length, get_or, Some, None, Ok, Err, IsUtf8, Result, sym, ap, ◌∙◌, inl, inr, arith, rules}
-use Rattle.std.specs.Int.{IsInRange}
+use Rattle.std.proofs.Common.{◌≡◌, ℕ, ◌^◌, ◌<◌, true, false, eqb, List, [], ◌∷◌, length, get_or, Some, None, Ok, Err, IsUtf8, Result, Bor, sym, ap, ◌∙◌, arith, rules}
 use Rattle.std.specs.Str.Parse.{ParsesUnsigned}
-use Rattle.std.specs.Result.{result_ok, OkIff}
+use Rattle.std.specs.Result.{result_ok, OkIff, MatchResult}
+use Rattle.std.specs.List.{starts_with}
+use Rattle.std.proofs.lemmas.Option.{none-some}
 use Rattle.std.specs.Str.{all_ascii_digits}
-use Rattle.std.proofs.lemmas.Str.Parse.{IsNumeralModel, numerals_by_fold, not_in_digits, parse_plain}
+use Rattle.std.proofs.lemmas.Str.Parse.{IsNumeralModel, numerals_by_fold, parse_plain}
 use Rattle.std.proofs.lemmas.Fmt.{IsAscii-from_digits}
 use Rattle.std.proofs.lemmas.Str.{IsUtf8-from_ascii}
-use Rattle.std.proofs.lemmas.Bool.{ltb-true, lt-ltb, and_parts, and_from, cases_Bool, eqb-false, cond-true, cond-false}
+use Rattle.std.proofs.lemmas.Bool.Decides.{nat_tests}
 use Rattle.script.specs.Words.{digits_after, is_number, word_number}
 
 pub own : IsNumeralModel (λ ds. all_ascii_digits ds ≡ true) (digits_after 0)
 own = numerals_by_fold _ (search rules) digits_after (search rules)
 
--- the parts of `is_number`
+-- what `is_number` tests
 parts : (ds : List ℕ) → is_number ds ≡ true → (all_ascii_digits ds ≡ true) × (0 < length ds) × (digits_after 0 ds < 2 ^ 32)
-parts ds h =
-    let p = and_parts _ _ h in
-    let q = and_parts _ _ p.1 in
-    (q.0, ltb-true _ _ p.0, ltb-true _ _ q.1)
+parts ds h = grind (arith, nat_tests)
 
 whole : (ds : List ℕ) → (all_ascii_digits ds ≡ true) × (0 < length ds) × (digits_after 0 ds < 2 ^ 32) → is_number ds ≡ true
-whole ds p = and_from _ _ (lt-ltb _ _ p.1) (and_from _ _ p.0 (lt-ltb _ _ p.2))
+whole ds p = grind (arith, nat_tests)
 
-pub none_unless : (ds : List ℕ) → (is_number ds ≡ true → ⊥) → None ≡ word_number ds
-none_unless ds never = elim (cases_Bool (is_number ds)) [ inl e ↦ absurd (never e) | inr e ↦ sym (cond-false (is_number ds) (Some (digits_after 0 ds)) None e) ]
+none_unless : (ds : List ℕ) → (is_number ds ≡ true → ⊥) → None ≡ word_number ds
+none_unless ds never = grind (arith, nat_tests)
 
-pub not_text : (ds : List ℕ) → (IsUtf8 ds → ⊥) → None ≡ word_number ds
+not_text : (ds : List ℕ) → (IsUtf8 ds → ⊥) → None ≡ word_number ds
 not_text ds bad = none_unless ds (λ e. bad (IsUtf8-from_ascii ds (IsAscii-from_digits ds (own.to ds (parts ds e).0))))
 
 converted : {E : Type 0} (ds : List ℕ) (r : Result ℕ E) → OkIff r ((all_ascii_digits ds ≡ true) × (0 < length ds) × (digits_after 0 ds < 2 ^ 32)) (digits_after 0 ds) → result_ok r ≡ word_number ds
-converted ds (Ok x) h = ap (λ y. Some y) h.1 ∙ sym (cond-true (is_number ds) (Some (digits_after 0 ds)) None (whole ds h.0))
+converted ds (Ok x) h = grind (arith, nat_tests)
 converted ds (Err e) h = none_unless ds (λ t. h (parts ds t))
 
 pub parsed : {E : Type 0} (ds : List ℕ) (r : Result ℕ E) → (get_or ds 0 0 ≡ 43 → ⊥) → ParsesUnsigned 32 10 ds r → result_ok r ≡ word_number ds
 parsed ds r plain h = converted ds r (parse_plain own 32 ds r h plain)
 
-pub plus : (ds : List ℕ) → get_or ds 0 0 ≡ 43 → None ≡ word_number ds
-plus ds is = none_unless ds (λ e. not_in_digits own ds 43 (parts ds e).0 (λ (h : IsInRange 48 57 43). omega arith) 0 (parts ds e).1 is)
-
--- a word that does not begin with a plus, by the test of its first byte
-pub no_plus : (ds : List ℕ) → (ltb 0 (length ds) && eqb (get_or ds 0 0) 43) ≡ false → get_or ds 0 0 ≡ 43 → ⊥
+-- a word that does not begin with a plus, by the test of its start
+pub no_plus : (ds : List ℕ) → false ≡ starts_with eqb ds (43 ∷ []) → get_or ds 0 0 ≡ 43 → ⊥
 no_plus [] h is = omega arith
-no_plus (d ∷ ds) h is = let some : ltb 0 (length (d ∷ ds)) ≡ true = lt-ltb 0 (length (d ∷ ds)) (omega arith) in eqb-false d 43 (rw some at h) is
+no_plus (d ∷ ds) h is = let begins = rw is at h in cc
+
+-- a word as text, if it is text
+pub text_of : {E : Type 0} (P : E → Type 0) (ds : List ℕ) (r : Result (Bor (List ℕ)) E) (t : Bor (List ℕ)) → MatchResult r (λ s. (s.now ≡ ds) × IsUtf8 ds) P → result_ok r ≡ Some t → t.now ≡ ds
+text_of P ds (Ok s) t h e = let same : s ≡ t = cc in ap (λ x. x.now) (sym same) ∙ h.0
+text_of P ds (Err d) t h e = absurd (none-some t e)
+
+pub no_text : {E : Type 0} (P : E → Type 0) (ds : List ℕ) (r : Result (Bor (List ℕ)) E) → MatchResult r (λ s. (s.now ≡ ds) × IsUtf8 ds) (λ d. (IsUtf8 ds → ⊥) × P d) → result_ok r ≡ None → None ≡ word_number ds
+no_text P ds (Ok s) h e = absurd (none-some s (sym e))
+no_text P ds (Err d) h e = not_text ds h.0

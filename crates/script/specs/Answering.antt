@@ -1,7 +1,9 @@
 -- How answers are written (docs/RULES.md, the script language).
-use Rattle.std.specs.Prelude.{ℕ, suc, List, [], ◌∷◌, ◌++◌, length, take, ℤ, pos, negsuc, codes, decimal}
+use Rattle.std.specs.Prelude.{ℕ, List, [], ◌∷◌, ◌++◌, length, Ok, Err, Result, codes, decimal}
+use Rattle.refusal.specs.Numbers.{number_of}
+use Rattle.refusal.specs.declared.Reason.{Reason}
 use Rattle.script.specs.declared.answer.Answer.{Answer}
-use Rattle.script.specs.declared.answer.Answer.TheVariants.{Settled, NotSettled}
+use Rattle.script.specs.declared.answer.Answer.TheVariants.{SettleText}
 use Rattle.script.specs.declared.answer.Called.{Called}
 use Rattle.script.specs.declared.answer.Collected.{Collected}
 use Rattle.script.specs.declared.answer.Summary.{Summary}
@@ -15,14 +17,14 @@ sized bs = decimal (length bs) ++ (32 ∷ escaped bs)
 abbrev pub minus : ℕ → List ℕ
 minus n = 45 ∷ decimal n
 
-abbrev pub answer_text : Answer → List ℕ
-answer_text (Settled text) = sized text.now
-answer_text (NotSettled number) = minus number
+-- the answer to a settling: the settled spelling, or the number of the refusal
+abbrev pub settling_answer : Result (List ℕ) Reason → List ℕ
+settling_answer (Ok s) = sized s
+settling_answer (Err reason) = minus (number_of reason)
 
--- the line for what the settling returned, the length of the text at the front of the buffer or minus a refusal's number
-abbrev pub settled_line : ℤ → List ℕ → List ℕ
-settled_line (pos n) buffer = sized (take n buffer)
-settled_line (negsuc n) buffer = minus (suc n)
+abbrev pub answer_text : Answer → List ℕ
+answer_text (SettleText (Ok settled)) = settling_answer (Ok settled.now)
+answer_text (SettleText (Err reason)) = settling_answer (Err reason)
 
 -- n and the words after it, before the rest
 abbrev pub counted : ℕ → List ℕ → List ℕ → List ℕ

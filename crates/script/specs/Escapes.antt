@@ -2,7 +2,7 @@
 use Rattle.std.specs.Prelude.{ℕ, ◌+◌, ◌*◌, ◌/◌, ◌%◌, ◌<◌, Bool, cond, not, ◌&&◌, List, [], ◌∷◌, Some, None, Option, ◌==◌, nat_le, nat_lt}
 use Rattle.std.specs.Option.{option_map}
 use Rattle.std.specs.Char.{digit_value, digit_char}
-use Rattle.std.specs.List.{flat_map, AllByRecursion}
+use Rattle.std.specs.List.{All, flat_map}
 
 -- `digit_value` counts 0 to 9, then a to z in either case from 10 on, and has 36 for any other byte
 abbrev pub is_hex : ℕ → Bool
@@ -45,4 +45,4 @@ abbrev pub escaped : List ℕ → List ℕ
 escaped bs = flat_map escaped_byte bs
 
 abbrev pub Bytes : List ℕ → Type 0
-Bytes bs = AllByRecursion (λ b. b < 256) bs
+Bytes bs = All (λ b. b < 256) bs

@@ -1,4 +1,5 @@
 pub mod Answering
+pub mod Errors
 pub mod Escapes
 pub mod Lines
 pub mod Words

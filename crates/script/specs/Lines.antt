@@ -1,21 +1,34 @@
 -- What a line of a script says (docs/RULES.md, "The script language of replay").
-use Rattle.std.specs.Prelude.{ℕ, Bool, cond, List, [], ◌∷◌, Some, None, vec_items, codes, Option, ◌==◌}
+use Rattle.std.specs.Prelude.{◌≡◌, ℕ, Bool, cond, List, [], ◌∷◌, Some, None, Ok, Err, vec_items, codes, Option, Result, ◌==◌}
 use Rattle.std.specs.Str.{bytes_eq}
-use Rattle.script.specs.declared.line.Line.{Line}
-use Rattle.script.specs.declared.line.Line.TheVariants.{PassedOver, Invalid, SettleText}
+use Rattle.script.specs.declared.call.Call.{Call}
+use Rattle.script.specs.declared.call.Call.TheVariants.{SettleText}
+use Rattle.script.specs.declared.error.LineError.{LineError}
+use Rattle.script.specs.declared.error.LineError.TheVariants.{Invalid, OutOfMemory}
 use Rattle.script.specs.Escapes.{unescaped}
 use Rattle.script.specs.Words.{first_word, after_word, word_number}
 
--- the meaning of a `Line`: its text is a list
+-- what a line says, whatever reads it
 pub data Said : Type 0 where
   passed_over : Said
   invalid : Said
   settle_text : ℕ → List ℕ → Said
 
-abbrev pub said : Line → Said
-said PassedOver = passed_over
-said Invalid = invalid
+-- a call has its text in a `Vec`
+abbrev pub said : Call → Said
 said (SettleText size text) = settle_text size (vec_items text)
+
+-- what a read of a call gave is what the line says; where memory ran out, that is left open
+abbrev pub ReadsCall : Result Call LineError → Said → Type 0
+ReadsCall (Ok call) s = s ≡ said call
+ReadsCall (Err Invalid) s = s ≡ invalid
+ReadsCall (Err (OutOfMemory e)) s = Unit {0}
+
+-- the same of a line, which need not have a call
+abbrev pub Reads : Result (Option Call) LineError → Said → Type 0
+Reads (Ok None) s = s ≡ passed_over
+Reads (Ok (Some call)) s = ReadsCall (Ok call) s
+Reads (Err e) s = ReadsCall (Err e) s
 
 -- what a read of a line gave, without the newline that ended it
 abbrev pub without_newline : List ℕ → List ℕ

@@ -1,9 +1,11 @@
 // What is written: the answers of calls, and a summary at the end.
-#[derive(Clone, Copy)]
+use refusal::Reason;
+
+// What a call gave, a variant for each call.
+#[derive(Clone, Copy, Debug, PartialEq, Eq)]
 pub enum Answer<'a> {
-    Settled(&'a [u8]),
-    // The number that the settling was refused with.
-    NotSettled(u32),
+    // The settled spelling, or why there is none.
+    SettleText(Result<&'a [u8], Reason>),
 }
 
 // The lines that reached a call of the store, and how many of them were granted and refused.

@@ -3,15 +3,16 @@
 #![tactic(auto)]
 
 mod answer;
-mod line;
+mod call;
+mod error;
 mod read;
 mod text;
 mod words;
 mod written;
 
 pub use answer::{Answer, Called, Collected, Summary};
-pub use line::Line;
+pub use call::Call;
+pub use error::LineError;
 pub use read::{line_text, read_line};
 pub use text::{Escaped, unescape};
 pub use words::{Cut, cut_word, number};
-pub use written::settled;

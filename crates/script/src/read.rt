@@ -1,77 +1,73 @@
 // The reading of a line.
-ghost use Rattle.std.specs.Prelude.{◌≡◌, true, false, is_ok, IfOk, vec_items, ◌==◌};
+ghost use Rattle.std.specs.Prelude.{◌≡◌, ◌≢◌, false, alloc_error};
 ghost use Rattle.std.specs.Option.{option_map};
 ghost use Rattle.script.specs.Words.{first_word};
-ghost use Rattle.script.specs.Lines.{said, is_settletext, without_newline, text_part, settletext_of, call_of, line_of};
+ghost use Rattle.script.specs.Lines.{is_settletext, without_newline, settletext_of, call_of, line_of, Reads, ReadsCall};
 
-use crate::line::Line;
+use crate::call::Call;
+use crate::error::LineError;
 use crate::text::unescape;
-use crate::words::{cut_word, number};
-use std::alloc::{AllocError, Global};
-
-fn is_newline(b: u8) -> bool
-    ensures { result ≡ (b == 10) }
-{
-    b == b'\n'
-}
+use crate::words::{Cut, cut_word, number};
+use std::alloc::Global;
 
 // A line as it was read, without the newline that ended it.
 pub fn line_text(read: &[u8]) -> &[u8]
     ensures { result.now ≡ without_newline read.now }
 {
-    match read.split_last() {
-        Some((last, line)) => if is_newline(*last) { line } else { read },
-        None => read,
-    }
-}
-
-// The text that ends a line, from what follows the word before it.
-fn text_after(heap: Global, rest: Option<&[u8]>) -> Result<Option<Vec<u8>>, AllocError>
-    ensures { IfOk result (λ o. option_map vec_items o ≡ text_part (option_map (λ x. x.now) rest.entry)) }
-{
-    match rest {
-        Some(escaped) => unescape(heap, escaped),
-        None => Ok(Some(Vec::new(heap))),
-    }
+    read.strip_suffix(b"\n").unwrap_or(read)
 }
 
 // `settletext SIZE TEXT`, from what follows the name.
-fn settle_text(heap: Global, rest: Option<&[u8]>) -> Result<Line, AllocError>
-    ensures { IfOk result (λ l. said l ≡ settletext_of (option_map (λ x. x.now) rest.entry)) }
+fn settle_text(alloc: Global, rest: Option<&[u8]>) -> Result<Call, LineError>
+    ensures { ReadsCall result (settletext_of (option_map (λ x. x.now) rest.entry)) }
 {
-    let Some(arguments) = rest else {
-        return Ok(Line::Invalid);
-    };
+    let arguments = rest.ok_or(LineError::Invalid)?;
     let cut = cut_word(arguments);
-    let Some(size) = number(cut.word) else {
-        return Ok(Line::Invalid);
-    };
-    match text_after(heap, cut.rest)? {
-        Some(text) => Ok(Line::SettleText { size, text }),
-        None => Ok(Line::Invalid),
+    let size = number(cut.word).ok_or(LineError::Invalid)?;
+    // TEXT is empty where the line ends before it.
+    let text = unescape(alloc, cut.rest.unwrap_or(b""))?;
+    Ok(Call::SettleText { size, text })
+}
+
+// A call by its name, the first word of its line.
+fn read_call(alloc: Global, cut: Cut<'_>) -> Result<Call, LineError>
+    ensures value { ReadsCall result (call_of cut.entry.word.now (option_map (λ x. x.now) cut.entry.rest)) }
+    ensures memory { is_settletext cut.entry.word.now ≡ false → result ≢ Err (LineError.OutOfMemory alloc_error) }
+{
+    match cut.word {
+        b"settletext" => settle_text(alloc, cut.rest),
+        _ => Err(LineError::Invalid),
     }
 }
 
-// A call by its name, and what follows the name.
-fn call(heap: Global, name: &[u8], rest: Option<&[u8]>) -> Result<Line, AllocError>
-    ensures value { IfOk result (λ l. said l ≡ call_of name.now (option_map (λ x. x.now) rest.entry)) }
-    ensures ok { is_settletext name.now ≡ false → is_ok result ≡ true }
+// What a line says, or nothing where it is empty or a comment. It comes without its newline.
+pub fn read_line(alloc: Global, line: &[u8]) -> Result<Option<Call>, LineError>
+    ensures value { Reads result (line_of line.now) }
+
+    // The text of `settletext` alone asks for memory.
+    ensures memory { is_settletext (first_word line.now) ≡ false → result ≢ Err (LineError.OutOfMemory alloc_error) }
 {
-    if name == b"settletext".as_slice() {
-        settle_text(heap, rest)
-    } else {
-        Ok(Line::Invalid)
+    match line.first() {
+        None | Some(b'#') => Ok(None),
+        Some(_) => Ok(Some(read_call(alloc, cut_word(line))?)),
     }
 }
 
-// What a line says. It comes without its newline.
-pub fn read_line(heap: Global, line: &[u8]) -> Result<Line, AllocError>
-    ensures value { IfOk result (λ l. said l ≡ line_of line.now) }
-    ensures ok { is_settletext (first_word line.now) ≡ false → is_ok result ≡ true }
-{
-    if line.is_empty() || line[0] == b'#' {
-        return Ok(Line::PassedOver);
+#[cfg(test)]
+mod tests {
+    use super::*;
+    use std::test::Fail;
+
+    #[test]
+    fn reads_lines(rt: HostRuntime) -> Result<(), Fail> {
+        let alloc = rt.alloc();
+        let text = b"A\\".to_vec(alloc)?;
+        assert_eq!(rt;
+            read_line(alloc, b"settletext 40 \\x41\\\\"),
+            Ok(Some(Call::SettleText { size: 40, text }))
+        );
+        assert_eq!(rt; read_line(alloc, b"# settletext"), Ok(None));
+        assert_eq!(rt; read_line(alloc, b"settletext"), Err(LineError::Invalid));
+        Ok(())
     }
-    let cut = cut_word(line);
-    call(heap, cut.word, cut.rest)
 }

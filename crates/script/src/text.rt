@@ -1,72 +1,57 @@
 // Text with escapes: how a line's is read, and how an answer's is written.
-ghost use Rattle.std.specs.Prelude.{◌≡◌, ℕ, ◌<◌, List, length, IfOk, Some, None, vec_items, MatchOption};
-ghost use Rattle.std.specs.Option.{option_map};
-ghost use Rattle.std.specs.Char.{digit_char};
+ghost use Rattle.std.specs.Prelude.{◌≡◌, ℕ, ◌≤◌, List, length, Some, None, MatchOption, MatchResult, alloc_error};
 ghost use Rattle.std.specs.Fmt.{WritesOnOk};
+ghost use Rattle.std.specs.Slice.Iter.{iter_rest};
 ghost use Rattle.script.specs.Escapes.{hex_value, unescaped, after_backslash, prepended, escaped, escaped_byte, is_plain, Bytes};
 
-use std::alloc::{AllocError, Global};
-use std::fmt;
+use crate::error::LineError;
+use std::alloc::Global;
+use std::{fmt, slice};
 
 fn hex_digit(c: u8) -> Option<u8>
     ensures { result ≡ hex_value c }
 {
-    match char::from(c).to_digit(16) {
-        Some(d) => Some(d as u8),
-        None => None,
-    }
+    char::from(c).to_digit(16).map(|d| d as u8)
 }
 
-// The byte that an escape stands for, read from after its backslash on, and what follows the escape.
-fn escape(text: &[u8]) -> Option<(u8, &[u8])>
-    ensures { MatchOption result (after_backslash text.now ≡ None) (λ p. (after_backslash text.now ≡ prepended p.0 (unescaped p.1.now)) × (length p.1.now < length text.now)) }
+// The byte that an escape stands for, read from after its backslash on.
+fn escape(bytes: &mut slice::Iter<'_, u8>) -> Option<u8>
+    ensures value { MatchOption result (after_backslash (iter_rest bytes.old) ≡ None) (λ b. after_backslash (iter_rest bytes.old) ≡ prepended b (unescaped (iter_rest bytes.new))) }
+    ensures fewer { length (iter_rest bytes.new) ≤ length (iter_rest bytes.old) }
 {
-    let (kind, rest) = text.split_first()?;
-    match *kind {
-        b'\\' => Some((b'\\', rest)),
+    match bytes.next()? {
+        b'\\' => Some(b'\\'),
         b'x' => {
-            let (high, rest) = rest.split_first()?;
-            let (low, rest) = rest.split_first()?;
-            Some((16 * hex_digit(*high)? + hex_digit(*low)?, rest))
+            let high = hex_digit(*bytes.next()?)?;
+            let low = hex_digit(*bytes.next()?)?;
+            Some(16 * high + low)
         }
         _ => None,
     }
 }
 
-// The bytes that a text with escapes stands for, and None where it is unreadable. Whatever `Escaped` writes of some
-// bytes, this gives those bytes back.
-pub fn unescape(heap: Global, text: &[u8]) -> Result<Option<Vec<u8>>, AllocError>
-    ensures value { IfOk result (λ o. option_map vec_items o ≡ unescaped text.now) }
-    ensures undoes { (bs : List ℕ) → Bytes bs → text.now ≡ escaped bs → IfOk result (λ o. option_map vec_items o ≡ Some bs) }
+// The bytes that a text with escapes stands for. Whatever `Escaped` writes of some bytes, this gives those bytes back.
+pub fn unescape(alloc: Global, text: &[u8]) -> Result<Vec<u8>, LineError>
+    ensures value { MatchResult result (λ v. unescaped text.now ≡ Some v.items) (λ e. e ≡ LineError.Invalid → unescaped text.now ≡ None) }
+    ensures undoes { (bs : List ℕ) → Bytes bs → text.now ≡ escaped bs → MatchResult result (λ v. v.items ≡ bs) (λ e. e ≡ LineError.OutOfMemory alloc_error) }
 {
-    let mut bytes = Vec::new(heap);
-    let mut rest = text;
-    while let Some((first, after)) = rest.split_first() {
-        if *first != b'\\' {
-            bytes.push(*first)?;
-            rest = after;
-        } else if let Some((byte, after)) = escape(after) {
-            bytes.push(byte)?;
-            rest = after;
-        } else {
-            return Ok(None);
-        }
+    let mut unescaped = Vec::new(alloc);
+    let mut bytes = text.iter();
+    while let Some(byte) = bytes.next() {
+        let byte = match byte {
+            b'\\' => escape(&mut bytes).ok_or(LineError::Invalid)?,
+            _ => *byte,
+        };
+        unescaped.push(byte)?;
     }
-    Ok(Some(bytes))
+    Ok(unescaped)
 }
 
-// The digit in lower case.
-fn hex_char(d: u8) -> char
-    requires { d < 16 }
-    ensures { result ≡ digit_char d }
-{
-    char::from_digit(u32::from(d), 16).unwrap()
-}
-
+// Whether an answer has the byte as it is.
 fn is_plain(b: u8) -> bool
     ensures { result ≡ is_plain b }
 {
-    b >= b' ' && b <= b'~' && b != b'\\'
+    matches!(b, b' '..=b'~') && b != b'\\'
 }
 
 // Writes `b` as it is or in an escape.
@@ -76,7 +61,7 @@ fn put_byte<W: fmt::Write>(b: u8, f: &mut fmt::Formatter<W>) -> fmt::Result
     if is_plain(b) {
         f.write_char(char::from(b))
     } else {
-        write!(f, "\\x{}{}", hex_char(b / 16), hex_char(b % 16))
+        write!(f, "\\x{b:02x}")
     }
 }
 
@@ -91,6 +76,21 @@ impl fmt::Display for Escaped<'_> {
         for b in self.0 {
             put_byte(*b, f)?;
         }
+        Ok(())
+    }
+}
+
+#[cfg(test)]
+mod tests {
+    use super::*;
+    use std::test::Fail;
+
+    #[test]
+    fn unescapes(rt: HostRuntime) -> Result<(), Fail> {
+        let alloc = rt.alloc();
+        let bytes = unescape(alloc, b"a\\\\\\xfF~")?;
+        assert_eq!(rt; bytes.as_slice(), b"a\\\xff~".as_slice());
+        assert_eq!(rt; unescape(alloc, b"\\x4"), Err(LineError::Invalid));
         Ok(())
     }
 }

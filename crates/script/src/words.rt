@@ -1,5 +1,5 @@
 // Words and numbers of a line.
-ghost use Rattle.std.specs.Prelude.{◌≡◌, ◌&&◌, length, ◌==◌, nat_lt, slice_index};
+ghost use Rattle.std.specs.Prelude.{◌≡◌};
 ghost use Rattle.std.specs.Option.{option_map};
 ghost use Rattle.script.specs.Words.{first_word, after_word, word_number};
 
@@ -10,35 +10,21 @@ pub struct Cut<'a> {
     pub rest: Option<&'a [u8]>,
 }
 
-fn is_space(b: u8) -> bool
-    ensures { result ≡ (b == 32) }
-{
-    b == b' '
-}
-
 // Cuts a line at its first space.
 pub fn cut_word(line: &[u8]) -> Cut<'_>
     ensures word { result.word.now ≡ first_word line.now }
     ensures rest { option_map (λ x. x.now) result.rest ≡ after_word line.now }
 {
-    for (i, b) in line.iter().enumerate() {
-        if is_space(*b) {
-            return Cut {
-                word: &line[0..i],
-                rest: Some(&line[i + 1..]),
-            };
-        }
+    match line.iter().position(|b| *b == b' ') {
+        Some(i) => Cut {
+            word: &line[..i],
+            rest: Some(&line[i + 1..]),
+        },
+        None => Cut {
+            word: line,
+            rest: None,
+        },
     }
-    Cut {
-        word: line,
-        rest: None,
-    }
-}
-
-fn begins_with_plus(word: &[u8]) -> bool
-    ensures { result ≡ (nat_lt 0 (length word.now) && slice_index word.now 0 == 43) }
-{
-    word.len() > 0 && word[0] == b'+'
 }
 
 // The number that a word is, if it is one: digits alone, and at most 4294967295.
@@ -46,11 +32,8 @@ pub fn number(word: &[u8]) -> Option<u32>
     ensures { result ≡ word_number word.now }
 {
     // `parse` takes a leading plus, which the format has not.
-    if begins_with_plus(word) {
+    if word.starts_with(b"+") {
         return None;
     }
-    match std::str::from_utf8(word) {
-        Ok(text) => text.parse::<u32>().ok(),
-        Err(_) => None,
-    }
+    std::str::from_utf8(word).ok()?.parse().ok()
 }

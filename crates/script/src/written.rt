@@ -1,6 +1,6 @@
 // Answers as text.
-ghost use Rattle.std.specs.Prelude.{◌≡◌, take, Some};
-ghost use Rattle.script.specs.Answering.{answer_text, called_text, collected_text, summary_text, settled_line};
+ghost use Rattle.std.specs.Prelude.{Some};
+ghost use Rattle.script.specs.Answering.{answer_text, called_text, collected_text, summary_text};
 
 use crate::answer::{Answer, Called, Collected, Summary};
 use crate::text::Escaped;
@@ -11,8 +11,8 @@ impl fmt::Display for Answer<'_> {
 
     fn fmt<W: fmt::Write>(&self, f: &mut fmt::Formatter<W>) -> fmt::Result {
         match *self {
-            Answer::Settled(text) => write!(f, "{} {}", text.len(), Escaped(text)),
-            Answer::NotSettled(number) => write!(f, "-{number}"),
+            Answer::SettleText(Ok(settled)) => write!(f, "{} {}", settled.len(), Escaped(settled)),
+            Answer::SettleText(Err(reason)) => write!(f, "-{}", u8::from(reason)),
         }
     }
 }
@@ -46,26 +46,5 @@ impl fmt::Display for Summary {
 
     fn fmt<W: fmt::Write>(&self, f: &mut fmt::Formatter<W>) -> fmt::Result {
         write!(f, "done {}, {}", self.called, self.collected)
-    }
-}
-
-// The first `len` bytes, or all where there are fewer.
-fn front(buffer: &[u8], len: usize) -> &[u8]
-    ensures { result.now ≡ take len buffer.now }
-{
-    match buffer.get(0..len) {
-        Some(front) => front,
-        None => buffer,
-    }
-}
-
-// The answer for what the settling returned: the length of the text at the front of the buffer, or minus the number of
-// the refusal.
-pub fn settled(returned: i32, buffer: &[u8]) -> Answer<'_>
-    ensures { answer_text result ≡ settled_line returned buffer.now }
-{
-    match usize::try_from(returned) {
-        Ok(len) => Answer::Settled(front(buffer, len)),
-        Err(_) => Answer::NotSettled(returned.unsigned_abs()),
     }
 }

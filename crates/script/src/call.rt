@@ -1,0 +1,5 @@
+// What a line of a script asks for, a variant for each call.
+#[derive(Debug, PartialEq, Eq, Drop)]
+pub enum Call {
+    SettleText { size: u32, text: Vec<u8> },
+}
