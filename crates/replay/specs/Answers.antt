@@ -1,15 +1,8 @@
 -- The answer to each line of a script, from the rules of settling and of the script language.
-use Rattle.std.specs.Prelude.{ℕ, List, Some, None, Ok, Err, codes, Option, Result}
-use Rattle.refusal.specs.Numbers.{number_of}
-use Rattle.refusal.specs.declared.Reason.{Reason}
-use Rattle.script.specs.Answering.{sized, minus}
+use Rattle.std.specs.Prelude.{ℕ, List, Some, None, codes, Option}
+use Rattle.script.specs.Answering.{settling_answer}
 use Rattle.script.specs.Lines.{Said, passed_over, invalid, settle_text, line_of}
 use Rattle.spelling.specs.Settling.{settle_into}
-
--- LEN TEXT, or -NUM
-abbrev pub settling_answer : Result (List ℕ) Reason → List ℕ
-settling_answer (Ok s) = sized s
-settling_answer (Err reason) = minus (number_of reason)
 
 abbrev pub answer_to_said : Said → Option (List ℕ)
 answer_to_said passed_over = None
