@@ -1,6 +1,6 @@
 -- What a settled text looks like, said of its bytes alone. 65 to 90 are A to Z, 92 is the backslash, 47 the slash.
 -- Past the end of a list `slice_index` gives 0, which is none of these.
-use Rattle.std.specs.Prelude.{◌≡◌, ℕ, ◌+◌, ◌-◌, ◌<◌, ◌≤◌, List, length, ◌≢◌, slice_index}
+use Rattle.std.specs.Prelude.{◌≡◌, ℕ, ◌+◌, ◌-◌, ◌<◌, ◌≤◌, List, ◌++◌, length, replicate, ◌≢◌, slice_index}
 
 -- each byte is from 0x20 to 0x7E
 abbrev pub Printable : List ℕ → Type 0
@@ -29,3 +29,7 @@ pub record Settled (text : List ℕ) : Type 0 where
   pub trimmed : NoSlashAtEnds text
   pub some : 1 ≤ length text
   pub few : length text ≤ 40
+
+-- how a `Spelling` keeps a text: in 40 bytes, with zeros after it
+abbrev pub padded : List ℕ → List ℕ
+padded text = text ++ replicate (40 - length text) 0

@@ -5,25 +5,27 @@ ghost use Rattle.spelling.specs.Settled.{Settled};
 use super::LONGEST_SPELLING;
 use std::marker::Model;
 
-// A settled spelling, the one form under which a path is filed. A clause sees it as its text; the invariant says that
-// no value of it can be anything else.
+// A settled spelling, the one form under which a path is filed. A clause sees it as its text. The invariant says that
+// no value of it can be anything but settled, and that the bytes after the text are 0, so that equal texts are equal
+// values.
+// An array and a length, since a spelling is copied and takes no memory of the heap: an `ArrayVec` is not `Copy`.
 #[derive(Clone, Copy, PartialEq, Eq)]
 pub struct Spelling {
     bytes: [u8; LONGEST_SPELLING],
-    len: u8,
+    len: usize,
 }
 
 impl Model for Spelling {
-    ghost use Rattle.std.specs.Prelude.{◌≡◌, ℕ, ◌-◌, ◌≤◌, List, ◌++◌, length, take, replicate};
-    ghost use Rattle.spelling.specs.Settled.{Settled};
+    ghost use Rattle.std.specs.Prelude.{◌≡◌, ℕ, List, length, take};
+    ghost use Rattle.spelling.specs.Settled.{Settled, padded};
 
     ghost Value = { List ℕ };
 
     ghost view = { λ s. take s.len s.bytes };
 
-    ghost invariant = { λ s. Settled (take s.len s.bytes) × (s.bytes ≡ take s.len s.bytes ++ replicate (40 - s.len) 0) × (s.len ≡ length (take s.len s.bytes)) };
+    ghost invariant = { λ s. Settled (take s.len s.bytes) × (s.bytes ≡ padded (take s.len s.bytes)) × (s.len ≡ length (take s.len s.bytes)) };
 
-    ghost inverse = { λ text. record { bytes = text ++ replicate (40 - length text) 0; len = length text } };
+    ghost inverse = { λ text. record { bytes = padded text; len = length text } };
 }
 
 impl Spelling {
@@ -36,7 +38,7 @@ impl Spelling {
         bytes[..text.len()].copy_from_slice(text);
         Spelling {
             bytes,
-            len: text.len() as u8,
+            len: text.len(),
         }
     }
 
@@ -45,6 +47,6 @@ impl Spelling {
         ensures text { result.now ≡ self.now }
         ensures settled { Settled result.now }
     {
-        &self.bytes[..usize::from(self.len)]
+        &self.bytes[..self.len]
     }
 }
