@@ -49,6 +49,6 @@ spelled_stays t h =
 pub gives_back : (t : List ℕ) → Settled t → settle t ≡ Ok t
 gives_back t h =
     let same = spelled_stays t h in
-    let some : 1 ≤ length (spelled t) = rw same h.some in
-    let few : length (spelled t) ≤ 40 = rw same h.few in
-    grants t (omega (arith, h.few)) (all_allowed t h.printable) some few ∙ ap (λ (l : List ℕ). Ok l) same
+    let some : 1 ≤ length (spelled t) = rw same h.short.0 in
+    let few : length (spelled t) ≤ 40 = rw same h.short.1 in
+    grants t (omega (arith, h.short.1)) (all_allowed t h.printable) some few ∙ ap (λ (l : List ℕ). Ok l) same

@@ -95,6 +95,5 @@ spelled_settled t h some few =
       forward = rw cut.front (λ k e. ⊎_elim (λ b. b.3 e) (λ z. omega arith) (clean_at front clean k));
       merged = rw cut.front (front_no_run cut.size merged single);
       trimmed = (rw cut.front (front_no_first cut.size merged (merged_no_first (map plain t))), eqb-false _ 47 cut.last);
-      some = some;
-      few = few;
+      short = (some, few);
     }

@@ -20,15 +20,17 @@ NoRun text = (k : ℕ) → slice_index text k ≡ 47 → slice_index text (k + 1
 abbrev pub NoSlashAtEnds : List ℕ → Type 0
 NoSlashAtEnds text = (slice_index text 0 ≢ 47) × (slice_index text (length text - 1) ≢ 47)
 
--- all of this together, and a length of 1 to 40
+abbrev pub OneToForty : List ℕ → Type 0
+OneToForty text = (1 ≤ length text) × (length text ≤ 40)
+
+-- all of this together
 pub record Settled (text : List ℕ) : Type 0 where
   pub printable : Printable text
   pub lower_case : NoCapital text
   pub forward : NoBackslash text
   pub merged : NoRun text
   pub trimmed : NoSlashAtEnds text
-  pub some : 1 ≤ length text
-  pub few : length text ≤ 40
+  pub short : OneToForty text
 
 -- how a `Spelling` keeps a text: in 40 bytes, with zeros after it
 abbrev pub padded : List ℕ → List ℕ
