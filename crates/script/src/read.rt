@@ -34,6 +34,7 @@ fn read_call(alloc: Global, cut: Cut<'_>) -> Result<Call, LineError>
     ensures value { ReadsCall result (call_of cut.entry.word.now (option_map (λ x. x.now) cut.entry.rest)) }
     ensures memory { is_settletext cut.entry.word.now ≡ false → result ≢ Err (LineError.OutOfMemory alloc_error) }
 {
+    // Not a `match`, which would be proved case by case for each byte of each name.
     if cut.word == b"settletext".as_slice() {
         settle_text(alloc, cut.rest)
     } else {
