@@ -1,5 +1,5 @@
 -- What `parse` reads, in the words of the format.
-use Rattle.std.proofs.Common.{◌≡◌, ℕ, ◌^◌, ◌<◌, true, false, eqb, List, [], ◌∷◌, length, get_or, Some, None, Ok, Err, IsUtf8, Result, Bor, sym, ap, ◌∙◌, arith, rules}
+use Rattle.std.proofs.Common.{◌≡◌, ℕ, ◌^◌, ◌<◌, true, false, eqb, List, [], ◌∷◌, length, get_or, Some, None, Ok, Err, IsUtf8, Result, Bor, sym, arith, rules}
 use Rattle.std.specs.Str.Parse.{ParsesUnsigned}
 use Rattle.std.specs.Result.{result_ok, OkIff, MatchResult}
 use Rattle.std.specs.List.{starts_with}
@@ -18,9 +18,6 @@ own = numerals_by_fold _ (search rules) digits_after (search rules)
 parts : (ds : List ℕ) → is_number ds ≡ true → (all_ascii_digits ds ≡ true) × (0 < length ds) × (digits_after 0 ds < 2 ^ 32)
 parts ds h = grind (arith, nat_tests)
 
-whole : (ds : List ℕ) → (all_ascii_digits ds ≡ true) × (0 < length ds) × (digits_after 0 ds < 2 ^ 32) → is_number ds ≡ true
-whole ds p = grind (arith, nat_tests)
-
 none_unless : (ds : List ℕ) → (is_number ds ≡ true → ⊥) → None ≡ word_number ds
 none_unless ds never = grind (arith, nat_tests)
 
@@ -29,7 +26,7 @@ not_text ds bad = none_unless ds (λ e. bad (IsUtf8-from_ascii ds (IsAscii-from_
 
 converted : {E : Type 0} (ds : List ℕ) (r : Result ℕ E) → OkIff r ((all_ascii_digits ds ≡ true) × (0 < length ds) × (digits_after 0 ds < 2 ^ 32)) (digits_after 0 ds) → result_ok r ≡ word_number ds
 converted ds (Ok x) h = grind (arith, nat_tests)
-converted ds (Err e) h = none_unless ds (λ t. h (parts ds t))
+converted ds (Err e) h = grind (arith, nat_tests)
 
 pub parsed : {E : Type 0} (ds : List ℕ) (r : Result ℕ E) → (get_or ds 0 0 ≡ 43 → ⊥) → ParsesUnsigned 32 10 ds r → result_ok r ≡ word_number ds
 parsed ds r plain h = converted ds r (parse_plain own 32 ds r h plain)
@@ -41,7 +38,7 @@ no_plus (d ∷ ds) h is = let begins = rw is at h in cc
 
 -- a word as text, if it is text
 pub text_of : {E : Type 0} (P : E → Type 0) (ds : List ℕ) (r : Result (Bor (List ℕ)) E) (t : Bor (List ℕ)) → MatchResult r (λ s. (s.now ≡ ds) × IsUtf8 ds) P → result_ok r ≡ Some t → t.now ≡ ds
-text_of P ds (Ok s) t h e = let same : s ≡ t = cc in ap (λ x. x.now) (sym same) ∙ h.0
+text_of P ds (Ok s) t h e = let same : s ≡ t = cc in rw same at h.0
 text_of P ds (Err d) t h e = absurd (none-some t e)
 
 pub no_text : {E : Type 0} (P : E → Type 0) (ds : List ℕ) (r : Result (Bor (List ℕ)) E) → MatchResult r (λ s. (s.now ≡ ds) × IsUtf8 ds) (λ d. (IsUtf8 ds → ⊥) × P d) → result_ok r ≡ None → None ≡ word_number ds

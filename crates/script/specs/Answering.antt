@@ -17,11 +17,12 @@ sized bs = decimal (length bs) ++ (32 ∷ escaped bs)
 abbrev pub minus : ℕ → List ℕ
 minus n = 45 ∷ decimal n
 
--- the answer to a settling: the settled spelling, or the number of the refusal
+-- LEN TEXT, or -NUM where the settling was refused
 abbrev pub settling_answer : Result (List ℕ) Reason → List ℕ
 settling_answer (Ok s) = sized s
 settling_answer (Err reason) = minus (number_of reason)
 
+-- an answer holds its text in a slice
 abbrev pub answer_text : Answer → List ℕ
 answer_text (SettleText (Ok settled)) = settling_answer (Ok settled.now)
 answer_text (SettleText (Err reason)) = settling_answer (Err reason)

@@ -8,23 +8,23 @@ use Rattle.script.specs.declared.error.LineError.TheVariants.{Invalid, OutOfMemo
 use Rattle.script.specs.Escapes.{unescaped}
 use Rattle.script.specs.Words.{first_word, after_word, word_number}
 
--- what a line says, whatever reads it
+-- what a line says
 pub data Said : Type 0 where
   passed_over : Said
   invalid : Said
   settle_text : ℕ → List ℕ → Said
 
--- a call has its text in a `Vec`
+-- the line that asks for a call, whose text is a `Vec`
 abbrev pub said : Call → Said
 said (SettleText size text) = settle_text size (vec_items text)
 
--- what a read of a call gave is what the line says; where memory ran out, that is left open
+-- what reading a call gave is what the line says; where memory ran out, that is left open
 abbrev pub ReadsCall : Result Call LineError → Said → Type 0
 ReadsCall (Ok call) s = s ≡ said call
 ReadsCall (Err Invalid) s = s ≡ invalid
 ReadsCall (Err (OutOfMemory e)) s = Unit {0}
 
--- the same of a line, which need not have a call
+-- the same of a line, which may ask for no call
 abbrev pub Reads : Result (Option Call) LineError → Said → Type 0
 Reads (Ok None) s = s ≡ passed_over
 Reads (Ok (Some call)) s = ReadsCall (Ok call) s

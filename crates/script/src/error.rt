@@ -1,4 +1,4 @@
-// Why a line gave nothing.
+// Why a line was not read.
 ghost use Rattle.std.specs.Prelude.{◌≡◌, alloc_error, Some};
 ghost use Rattle.script.specs.declared.error.LineError.TheVariants.{OutOfMemory};
 ghost use Rattle.script.specs.Errors.{error_text};
@@ -14,7 +14,7 @@ pub enum LineError {
     OutOfMemory(AllocError),
 }
 
-// So that `?` passes on what a `push` lacked.
+// What `?` makes of a failed `push`.
 impl<T: Drop> From<AllocFailed<T>> for LineError {
     ghost from_gives = { λ _ e. e ≡ OutOfMemory alloc_error };
 

@@ -34,13 +34,15 @@ fn read_call(alloc: Global, cut: Cut<'_>) -> Result<Call, LineError>
     ensures value { ReadsCall result (call_of cut.entry.word.now (option_map (λ x. x.now) cut.entry.rest)) }
     ensures memory { is_settletext cut.entry.word.now ≡ false → result ≢ Err (LineError.OutOfMemory alloc_error) }
 {
-    match cut.word {
-        b"settletext" => settle_text(alloc, cut.rest),
-        _ => Err(LineError::Invalid),
+    // Not a `match`, which would be proved case by case for each byte of each name.
+    if cut.word == b"settletext".as_slice() {
+        settle_text(alloc, cut.rest)
+    } else {
+        Err(LineError::Invalid)
     }
 }
 
-// What a line says, or nothing where it is empty or a comment. It comes without its newline.
+// The call that a line asks for. An empty line and a comment ask for none. The line comes without its newline.
 pub fn read_line(alloc: Global, line: &[u8]) -> Result<Option<Call>, LineError>
     ensures value { Reads result (line_of line.now) }
 

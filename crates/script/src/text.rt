@@ -73,8 +73,8 @@ impl fmt::Display for Escaped<'_> {
     ghost output = { λ x. Some (escaped x.0.now) };
 
     fn fmt<W: fmt::Write>(&self, f: &mut fmt::Formatter<W>) -> fmt::Result {
-        for b in self.0 {
-            put_byte(*b, f)?;
+        for &b in self.0 {
+            put_byte(b, f)?;
         }
         Ok(())
     }

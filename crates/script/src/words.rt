@@ -15,7 +15,7 @@ pub fn cut_word(line: &[u8]) -> Cut<'_>
     ensures word { result.word.now ≡ first_word line.now }
     ensures rest { option_map (λ x. x.now) result.rest ≡ after_word line.now }
 {
-    match line.iter().position(|b| *b == b' ') {
+    match line.iter().position(|&b| b == b' ') {
         Some(i) => Cut {
             word: &line[..i],
             rest: Some(&line[i + 1..]),

@@ -1,5 +1,4 @@
-use Rattle.std.proofs.Common.{ℕ, List, sym, ◌∙◌, subst}
-use Rattle.std.specs.Str.Parse.{ParsesUnsigned}
+use Rattle.std.proofs.Common.{sym, ◌∙◌}
 use Rattle.script.proofs.Digits.{parsed, text_of, no_text, no_plus}
 use Rattle.script.proofs.words.number.Goals as goal
 
@@ -10,4 +9,4 @@ pub returns : goal.returns
 returns c =
     let word = c.args.word.now in
     let text = text_of _ word c.from_utf8.result c.in_ok-ok.field-0 c.from_utf8.ensures.cases (sym c.ok.ensures.value ∙ c.in_ok-ok.was) in
-    c.ok-2.ensures.value ∙ parsed word c.parse.result (no_plus word c.if-starts_with.ensures.value) (subst (λ (l : List ℕ). ParsesUnsigned 32 10 l c.parse.result) text c.parse.ensures.value.0)
+    c.ok-2.ensures.value ∙ parsed word c.parse.result (no_plus word c.if-starts_with.ensures.value) (rw text at c.parse.ensures.value.0)
