@@ -1,8 +1,7 @@
 -- What `parse` reads, in the words of the format.
-use Rattle.std.proofs.Common.{◌≡◌, ℕ, ◌^◌, ◌<◌, true, false, eqb, List, [], ◌∷◌, length, get_or, Some, None, Ok, Err, IsUtf8, Result, Bor, sym, arith, rules}
+use Rattle.std.proofs.Common.{◌≡◌, ℕ, ◌^◌, ◌<◌, true, List, length, get_or, Some, None, Ok, Err, IsUtf8, Result, Bor, sym, arith, rules}
 use Rattle.std.specs.Str.Parse.{ParsesUnsigned}
 use Rattle.std.specs.Result.{result_ok, OkIff, MatchResult}
-use Rattle.std.specs.List.{starts_with}
 use Rattle.std.proofs.lemmas.Option.{none-some}
 use Rattle.std.specs.Str.{all_ascii_digits}
 use Rattle.std.proofs.lemmas.Str.Parse.{IsNumeralModel, numerals_by_fold, parse_plain}
@@ -30,11 +29,6 @@ converted ds (Err e) h = grind (arith, nat_tests)
 
 pub parsed : {E : Type 0} (ds : List ℕ) (r : Result ℕ E) → (get_or ds 0 0 ≡ 43 → ⊥) → ParsesUnsigned 32 10 ds r → result_ok r ≡ word_number ds
 parsed ds r plain h = converted ds r (parse_plain own 32 ds r h plain)
-
--- a word that does not begin with a plus, by the test of its start
-pub no_plus : (ds : List ℕ) → false ≡ starts_with eqb ds (43 ∷ []) → get_or ds 0 0 ≡ 43 → ⊥
-no_plus [] h is = omega arith
-no_plus (d ∷ ds) h is = let begins = rw is at h in cc
 
 -- a word as text, if it is text
 pub text_of : {E : Type 0} (P : E → Type 0) (ds : List ℕ) (r : Result (Bor (List ℕ)) E) (t : Bor (List ℕ)) → MatchResult r (λ s. (s.now ≡ ds) × IsUtf8 ds) P → result_ok r ≡ Some t → t.now ≡ ds

@@ -1,5 +1,4 @@
 pub mod Answering
-pub mod Errors
 pub mod Escapes
 pub mod Lines
 pub mod Words

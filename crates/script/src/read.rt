@@ -11,6 +11,7 @@ use crate::words::{Cut, cut_word, number};
 use std::alloc::Global;
 
 // A line as it was read, without the newline that ended it.
+#[tactic(auto, using(crate::proofs::Newlines::line_stripped))]
 pub fn line_text(read: &[u8]) -> &[u8]
     ensures { result.now ≡ without_newline read.now }
 {

@@ -1,5 +1,6 @@
 use Rattle.std.proofs.Common.{sym, ◌∙◌}
-use Rattle.script.proofs.Digits.{parsed, text_of, no_text, no_plus}
+use Rattle.std.proofs.lemmas.Bool.{eqb-false}
+use Rattle.script.proofs.Digits.{parsed, text_of, no_text}
 use Rattle.script.proofs.words.number.Goals as goal
 
 pub returns-in_err-ok : goal.returns-in_err-ok
@@ -9,4 +10,4 @@ pub returns : goal.returns
 returns c =
     let word = c.args.word.now in
     let text = text_of _ word c.from_utf8.result c.in_ok-ok.field-0 c.from_utf8.ensures.cases (sym c.ok.ensures.value ∙ c.in_ok-ok.was) in
-    c.ok-2.ensures.value ∙ parsed word c.parse.result (no_plus word c.if-starts_with.ensures.value) (rw text at c.parse.ensures.value.0)
+    c.ok-2.ensures.value ∙ parsed word c.parse.result (eqb-false _ 43 (sym c.if-begins_with_plus.ensures)) (rw text at c.parse.ensures.value.0)
