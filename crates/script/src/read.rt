@@ -44,6 +44,7 @@ fn read_call(alloc: Global, cut: Cut<'_>) -> Result<Call, LineError>
 }
 
 // The call that a line asks for. An empty line and a comment ask for none. The line comes without its newline.
+// What asks for memory is passed the allocator, as everywhere in std, and no struct keeps it.
 pub fn read_line(alloc: Global, line: &[u8]) -> Result<Option<Call>, LineError>
     ensures value { Reads result (line_of line.now) }
 

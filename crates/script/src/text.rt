@@ -11,6 +11,7 @@ use std::{fmt, slice};
 fn hex_digit(c: u8) -> Option<u8>
     ensures { result ≡ hex_value c }
 {
+    // A cast that is proved to lose nothing: `try_from` would have a failure to answer that can't be.
     char::from(c).to_digit(16).map(|d| d as u8)
 }
 

@@ -119,7 +119,8 @@ fn settled(text: &[u8]) -> Result<ArrayVec<u8, LONGEST_TEXT>, Reason>
 }
 
 impl Spelling {
-    // Settles a text: its spelling, or why it has none.
+    // Settles a text: its spelling, or why it has none. The laws stand on each face, since a caller reads its contract
+    // alone.
     #[tactic(auto, using(crate::proofs::Changes::lawful))]
     pub fn settle(text: &[u8]) -> Result<Spelling, Reason>
         ensures exact { result ≡ settle text.now }

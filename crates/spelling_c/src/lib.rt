@@ -17,7 +17,8 @@ fn refused(reason: Reason) -> i32
     -i32::from(u8::from(reason))
 }
 
-// Settles a text into the front of a buffer, and answers the length, or minus the refusal's number.
+// Settles a text into the front of a buffer, and answers the length, or minus the refusal's number: C has no `Result`,
+// and needs one number. The laws of settling stand here too, since a caller reads nothing but this contract.
 #[unsafe(no_mangle)]
 pub extern "C" fn spelling_settle(text: &[u8], out: &mut [u8]) -> i32
     ensures answer { result ≡ code_of (settle_into (length out.old) text.now) }
