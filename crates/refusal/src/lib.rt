@@ -3,8 +3,8 @@
 ghost use Rattle.std.specs.Prelude.{◌≡◌};
 ghost use Rattle.refusal.specs.Numbers.{number_of};
 
-// Why a call was refused. The discriminants are the numbers that callers see (docs/RULES.md, "Refusals"):
-// 1 to 8 come from the input, 20 to 31 from the state of the store.
+/// Why a call was refused. The discriminants are the numbers that callers see (docs/RULES.md, "Refusals"):
+/// 1 to 8 come from the input, 20 to 31 from the state of the store.
 #[derive(Clone, Copy, Debug, PartialEq, Eq)]
 pub enum Reason {
     TextTooLong = 1,
@@ -29,7 +29,7 @@ pub enum Reason {
     NoCells = 31,
 }
 
-// The number of a refusal.
+/// The number of a refusal.
 impl From<Reason> for u8 {
     ghost from_gives = { λ reason n. n ≡ number_of reason };
 
@@ -38,7 +38,7 @@ impl From<Reason> for u8 {
     }
 }
 
-// What a refused call answers. The place is 0, but for a walk that fails on its way (docs/RULES.md, "Refusals").
+/// What a refused call answers. The place is 0, but for a walk that fails on its way (docs/RULES.md, "Refusals").
 #[derive(Clone, Copy, Debug, PartialEq, Eq)]
 pub struct Refusal {
     pub reason: Reason,

@@ -1,4 +1,4 @@
-// The answer to a line.
+//! The answer to a line.
 ghost use Rattle.std.specs.Prelude.{◌≡◌, IfOk, string_bytes, length};
 ghost use Rattle.std.specs.Option.{option_map};
 ghost use Rattle.script.specs.Answering.{settling_answer};
@@ -11,7 +11,7 @@ use script::{Answer, Call, LineError, read_line};
 use spelling::{LONGEST_SPELLING, settle_into};
 use std::alloc::{AllocError, Global};
 
-// The spelling of a text, written into a buffer.
+/// The spelling of a text, written into a buffer.
 fn settled<'a>(text: &[u8], buffer: &'a mut [u8]) -> Result<&'a [u8], Reason>
     ensures { map_ok (λ s. s.now) result ≡ settle_into (length buffer.old) text.now }
 {
@@ -19,7 +19,7 @@ fn settled<'a>(text: &[u8], buffer: &'a mut [u8]) -> Result<&'a [u8], Reason>
     Ok(&buffer[..len])
 }
 
-// What settling a text into a buffer of `size` bytes is answered.
+/// What settling a text into a buffer of `size` bytes is answered.
 fn settle_text(alloc: Global, size: u32, text: &[u8]) -> Result<String, AllocError>
     ensures { IfOk result (λ s. string_bytes s ≡ settling_answer (settle_into size text.now)) }
 {
@@ -30,7 +30,7 @@ fn settle_text(alloc: Global, size: u32, text: &[u8]) -> Result<String, AllocErr
     Answer::SettleText(settled(text, buffer)).to_string(alloc)
 }
 
-// The answer to a line, if it gets one. The line comes without its newline.
+/// The answer to a line, if it gets one. The line comes without its newline.
 pub fn answer(alloc: Global, line: &[u8]) -> Result<Option<String>, AllocError>
     ensures { IfOk result (λ o. option_map string_bytes o ≡ answer_to line.now) }
 {

@@ -1,5 +1,5 @@
-// Plays a script of calls from standard input, and prints one answer for each line that asks for one, then a summary
-// (docs/RULES.md, the script language).
+//! Plays a script of calls from standard input, and prints one answer for each line that asks for one, then a summary
+//! (docs/RULES.md, the script language).
 #![tactic(auto)]
 
 use answers::answer;

@@ -1,14 +1,14 @@
-// What is written: the answers of calls, and a summary at the end.
+//! What is written: the answers of calls, and a summary at the end.
 use refusal::Reason;
 
-// What a call gave, a variant for each call.
+/// What a call gave, a variant for each call.
 #[derive(Clone, Copy, Debug, PartialEq, Eq)]
 pub enum Answer<'a> {
-    // The settled spelling, or why there is none.
+    /// The settled spelling, or why there is none.
     SettleText(Result<&'a [u8], Reason>),
 }
 
-// The lines that reached a call of the store, and how many of them were granted and refused.
+/// The lines that reached a call of the store, and how many of them were granted and refused.
 #[derive(Clone, Copy, Default)]
 pub struct Called {
     pub calls: u64,
@@ -16,7 +16,7 @@ pub struct Called {
     pub refused: u64,
 }
 
-// The cycles that ended, and the counts of the census at the end.
+/// The cycles that ended, and the counts of the census at the end.
 #[derive(Clone, Copy, Default)]
 pub struct Collected {
     pub cycles: u64,

@@ -1,5 +1,5 @@
-// The script language of the program `replay` (docs/RULES.md, the script language): what a line says, and how it is
-// answered.
+//! The script language of the program `replay` (docs/RULES.md, the script language): what a line says, and how it is
+//! answered.
 #![tactic(auto)]
 
 mod answer;

@@ -1,4 +1,4 @@
-// The reading of a line.
+//! The reading of a line.
 ghost use Rattle.std.specs.Prelude.{◌≡◌, ◌≢◌, false, alloc_error};
 ghost use Rattle.std.specs.Option.{option_map};
 ghost use Rattle.script.specs.Words.{first_word};
@@ -10,7 +10,7 @@ use crate::text::unescape;
 use crate::words::{Cut, cut_word, number};
 use std::alloc::Global;
 
-// A line as it was read, without the newline that ended it.
+/// A line as it was read, without the newline that ended it.
 #[tactic(auto, using(crate::proofs::Newlines::line_stripped))]
 pub fn line_text(read: &[u8]) -> &[u8]
     ensures { result.now ≡ without_newline read.now }
@@ -18,7 +18,7 @@ pub fn line_text(read: &[u8]) -> &[u8]
     read.strip_suffix(b"\n").unwrap_or(read)
 }
 
-// `settletext SIZE TEXT`, from what follows the name.
+/// `settletext SIZE TEXT`, from what follows the name.
 fn settle_text(alloc: Global, rest: Option<&[u8]>) -> Result<Call, LineError>
     ensures { ReadsCall result (settletext_of (option_map (λ x. x.now) rest.entry)) }
 {
@@ -30,7 +30,7 @@ fn settle_text(alloc: Global, rest: Option<&[u8]>) -> Result<Call, LineError>
     Ok(Call::SettleText { size, text })
 }
 
-// A call by its name, the first word of its line.
+/// A call by its name, the first word of its line.
 fn read_call(alloc: Global, cut: Cut<'_>) -> Result<Call, LineError>
     ensures value { ReadsCall result (call_of cut.entry.word.now (option_map (λ x. x.now) cut.entry.rest)) }
     ensures memory { is_settletext cut.entry.word.now ≡ false → result ≢ Err (LineError.OutOfMemory alloc_error) }
@@ -43,7 +43,7 @@ fn read_call(alloc: Global, cut: Cut<'_>) -> Result<Call, LineError>
     }
 }
 
-// The call that a line asks for. An empty line and a comment ask for none. The line comes without its newline.
+/// The call that a line asks for. An empty line and a comment ask for none. The line comes without its newline.
 // What asks for memory is passed the allocator, as everywhere in std, and no struct keeps it.
 pub fn read_line(alloc: Global, line: &[u8]) -> Result<Option<Call>, LineError>
     ensures value { Reads result (line_of line.now) }

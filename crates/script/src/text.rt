@@ -1,4 +1,4 @@
-// Text with escapes: how a line's is read, and how an answer's is written.
+//! Text with escapes: how a line's is read, and how an answer's is written.
 ghost use Rattle.std.specs.Prelude.{◌≡◌, ℕ, ◌≤◌, List, length, Some, None, MatchOption, MatchResult, alloc_error};
 ghost use Rattle.std.specs.Fmt.{WritesOnOk};
 ghost use Rattle.std.specs.Slice.Iter.{iter_rest};
@@ -15,7 +15,7 @@ fn hex_digit(c: u8) -> Option<u8>
     char::from(c).to_digit(16).map(|d| d as u8)
 }
 
-// The byte that an escape stands for, read from after its backslash on.
+/// The byte that an escape stands for, read from after its backslash on.
 fn escape(bytes: &mut slice::Iter<'_, u8>) -> Option<u8>
     ensures value { MatchOption result (after_backslash (iter_rest bytes.old) ≡ None) (λ b. after_backslash (iter_rest bytes.old) ≡ prepended b (unescaped (iter_rest bytes.new))) }
     ensures fewer { length (iter_rest bytes.new) ≤ length (iter_rest bytes.old) }
@@ -31,7 +31,7 @@ fn escape(bytes: &mut slice::Iter<'_, u8>) -> Option<u8>
     }
 }
 
-// The bytes that a text with escapes stands for. Whatever `Escaped` writes of some bytes, this gives those bytes back.
+/// The bytes that a text with escapes stands for. Whatever `Escaped` writes of some bytes, this gives those bytes back.
 pub fn unescape(alloc: Global, text: &[u8]) -> Result<Vec<u8>, LineError>
     ensures value { MatchResult result (λ v. unescaped text.now ≡ Some v.items) (λ e. e ≡ LineError.Invalid → unescaped text.now ≡ None) }
     ensures undoes { (bs : List ℕ) → Bytes bs → text.now ≡ escaped bs → MatchResult result (λ v. v.items ≡ bs) (λ e. e ≡ LineError.OutOfMemory alloc_error) }
@@ -48,14 +48,14 @@ pub fn unescape(alloc: Global, text: &[u8]) -> Result<Vec<u8>, LineError>
     Ok(unescaped)
 }
 
-// Whether an answer has the byte as it is.
+/// Whether an answer has the byte as it is.
 fn is_plain(b: u8) -> bool
     ensures { result ≡ is_plain b }
 {
     matches!(b, b' '..=b'~') && b != b'\\'
 }
 
-// Writes `b` as it is or in an escape.
+/// Writes `b` as it is or in an escape.
 fn put_byte<W: fmt::Write>(b: u8, f: &mut fmt::Formatter<W>) -> fmt::Result
     ensures { WritesOnOk W.write_str_gives f.old result (escaped_byte b) f.new }
 {
@@ -66,7 +66,7 @@ fn put_byte<W: fmt::Write>(b: u8, f: &mut fmt::Formatter<W>) -> fmt::Result
     }
 }
 
-// Bytes as an answer has them: on one line, and such that any terminal shows them.
+/// Bytes as an answer has them: on one line, and such that any terminal shows them.
 #[derive(Clone, Copy)]
 pub struct Escaped<'a>(pub &'a [u8]);
 

@@ -1,9 +1,9 @@
-// Words and numbers of a line.
+//! Words and numbers of a line.
 ghost use Rattle.std.specs.Prelude.{◌≡◌, ◌==◌, slice_index};
 ghost use Rattle.std.specs.Option.{option_map};
 ghost use Rattle.script.specs.Words.{first_word, after_word, word_number};
 
-// A line cut after its first word. Nothing follows a word that the line ends with, not even an empty word.
+/// A line cut after its first word. Nothing follows a word that the line ends with, not even an empty word.
 #[derive(Clone, Copy)]
 pub struct Cut<'a> {
     pub word: &'a [u8],
@@ -16,7 +16,7 @@ fn is_space(b: u8) -> bool
     b == b' '
 }
 
-// Cuts a line at its first space.
+/// Cuts a line at its first space.
 pub fn cut_word(line: &[u8]) -> Cut<'_>
     ensures word { result.word.now ≡ first_word line.now }
     ensures rest { option_map (λ x. x.now) result.rest ≡ after_word line.now }
@@ -39,7 +39,7 @@ fn begins_with_plus(word: &[u8]) -> bool
     word.first() == Some(&b'+')
 }
 
-// The number that a word is, if it is one: digits alone, and at most 4294967295.
+/// The number that a word is, if it is one: digits alone, and at most 4294967295.
 pub fn number(word: &[u8]) -> Option<u32>
     ensures { result ≡ word_number word.now }
 {

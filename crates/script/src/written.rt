@@ -1,4 +1,4 @@
-// Answers as text.
+//! Answers as text.
 ghost use Rattle.std.specs.Prelude.{Some};
 ghost use Rattle.script.specs.Answering.{answer_text, called_text, collected_text, summary_text};
 

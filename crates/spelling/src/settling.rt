@@ -1,4 +1,4 @@
-// The rule of settling, and its limits (docs/RULES.md, "Settled spellings").
+//! The rule of settling, and its limits (docs/RULES.md, "Settled spellings").
 ghost use Rattle.std.specs.Prelude.{◌≡◌, ◌≤◌, ◌-◌, ◌&&◌, map, length, slice_index, IfOk, Ok};
 ghost use Rattle.std.specs.List.{list_all};
 ghost use Rattle.spelling.specs.Faces.{map_ok, buffer_after};
@@ -10,21 +10,21 @@ use super::{LONGEST_SPELLING, LONGEST_TEXT, Spelling};
 use arrayvec::ArrayVec;
 use refusal::Reason;
 
-// Whether a text may hold a byte.
+/// Whether a text may hold a byte.
 fn is_allowed(b: u8) -> bool
     ensures { result ≡ allowed b }
 {
     matches!(b, 0x20..=0x7e)
 }
 
-// Whether a text may hold each of its bytes.
+/// Whether a text may hold each of its bytes.
 fn all_allowed(text: &[u8]) -> bool
     ensures { result ≡ list_all allowed text.now }
 {
     text.iter().all(|b| is_allowed(*b))
 }
 
-// A byte in lower case, with a slash for a backslash.
+/// A byte in lower case, with a slash for a backslash.
 fn plain_byte(b: u8) -> u8
     ensures { result ≡ plain b }
 {
@@ -34,14 +34,14 @@ fn plain_byte(b: u8) -> u8
     }
 }
 
-// Whether a byte goes: a slash that follows another.
+/// Whether a byte goes: a slash that follows another.
 fn goes(slash: bool, after_slash: bool) -> bool
     ensures { result ≡ (slash && after_slash) }
 {
     slash & after_slash
 }
 
-// A text in lower case, with slashes for backslashes, one slash for each run of them, and none at the left end.
+/// A text in lower case, with slashes for backslashes, one slash for each run of them, and none at the left end.
 fn squeezed(text: &[u8]) -> ArrayVec<u8, LONGEST_TEXT>
     requires { length text.now ≤ 120 }
     ensures { result.items ≡ trim_left (merge_runs (map plain text.now)) }
@@ -60,14 +60,14 @@ fn squeezed(text: &[u8]) -> ArrayVec<u8, LONGEST_TEXT>
     left
 }
 
-// Whether a slash stands at the right end.
+/// Whether a slash stands at the right end.
 fn ends_in_slash(text: &[u8]) -> bool
     ensures { result ≡ is_slash (slice_index text.now (length text.now - 1)) }
 {
     text.last() == Some(&b'/')
 }
 
-// What the rule leaves of a text.
+/// What the rule leaves of a text.
 fn spelled(text: &[u8]) -> ArrayVec<u8, LONGEST_TEXT>
     requires { length text.now ≤ 120 }
     ensures { result.items ≡ spelled text.now }
@@ -80,7 +80,7 @@ fn spelled(text: &[u8]) -> ArrayVec<u8, LONGEST_TEXT>
     left
 }
 
-// The limits on a text.
+/// The limits on a text.
 fn check_text(text: &[u8]) -> Result<(), Reason>
     ensures { result ≡ text_limits text.now (Ok tt) }
 {
@@ -93,7 +93,7 @@ fn check_text(text: &[u8]) -> Result<(), Reason>
     Ok(())
 }
 
-// The limits on the length of what is left of a text.
+/// The limits on the length of what is left of a text.
 fn check_left(len: usize) -> Result<(), Reason>
     ensures { result ≡ length_limits len (Ok tt) }
 {
@@ -106,7 +106,7 @@ fn check_left(len: usize) -> Result<(), Reason>
     Ok(())
 }
 
-// The settled text.
+/// The settled text.
 #[tactic(auto, unfolding(crate::specs::Settling::settle))]
 fn settled(text: &[u8]) -> Result<ArrayVec<u8, LONGEST_TEXT>, Reason>
     ensures value { map_ok (λ left. left.items) result ≡ settle text.now }
@@ -119,8 +119,8 @@ fn settled(text: &[u8]) -> Result<ArrayVec<u8, LONGEST_TEXT>, Reason>
 }
 
 impl Spelling {
-    // Settles a text: its spelling, or why it has none. The laws stand on each face, since a caller reads its contract
-    // alone.
+    /// Settles a text: its spelling, or why it has none.
+    // The laws stand on each public face, since a caller reads its contract alone.
     #[tactic(auto, using(crate::proofs::Changes::lawful))]
     pub fn settle(text: &[u8]) -> Result<Spelling, Reason>
         ensures exact { result ≡ settle text.now }
@@ -130,14 +130,15 @@ impl Spelling {
     }
 }
 
-// Settles a text into the front of a buffer, and answers the length.
-// A length, and not the slice: a slice lent from `out` would leave a clause no plain word for the buffer afterwards.
+/// Settles a text into the front of a buffer, and answers the length.
 #[tactic(auto, using(crate::proofs::Changes::lawful))]
 pub fn settle_into(text: &[u8], out: &mut [u8]) -> Result<usize, Reason>
     ensures length { result ≡ map_ok length (settle_into (length out.old) text.now) }
     ensures buffer { out.new ≡ buffer_after (settle_into (length out.old) text.now) out.old }
     ensures lawful { Lawful text.now }
 {
+    // It answers a length and not the slice: with a slice lent from `out`, a clause had no plain word for the buffer
+    // afterwards.
     let left = settled(text)?;
     if out.len() < LONGEST_SPELLING {
         return Err(Reason::BufferTooShort);

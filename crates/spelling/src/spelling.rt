@@ -1,13 +1,13 @@
-// The type of settled spellings.
+//! The type of settled spellings.
 ghost use Rattle.std.specs.Prelude.{◌≡◌};
 ghost use Rattle.spelling.specs.Settled.{Settled};
 
 use super::LONGEST_SPELLING;
 use std::marker::Model;
 
-// A settled spelling, the one form under which a path is filed. A clause sees it as its text. The invariant says that
-// no value of it can be anything but settled, and that the bytes after the text are 0, so that equal texts are equal
-// values.
+/// A settled spelling, the one form under which a path is filed. A clause sees it as its text. The invariant says that
+/// no value of it can be anything but settled, and that the bytes after the text are 0, so that equal texts are equal
+/// values.
 // An array and a length, since a spelling is copied and takes no memory of the heap: an `ArrayVec` is not `Copy`.
 #[derive(Clone, Copy, PartialEq, Eq)]
 pub struct Spelling {
@@ -29,7 +29,7 @@ impl Model for Spelling {
 }
 
 impl Spelling {
-    // The spelling that a settled text is.
+    /// The spelling that a settled text is.
     pub(super) fn from_settled(text: &[u8]) -> Spelling
         requires { Settled text.now }
         ensures { result ≡ text.now }
@@ -42,7 +42,7 @@ impl Spelling {
         }
     }
 
-    // The text of the spelling, 1 to 40 bytes.
+    /// The text of the spelling, 1 to 40 bytes.
     pub fn as_bytes(&self) -> &[u8]
         ensures text { result.now ≡ self.now }
         ensures settled { Settled result.now }

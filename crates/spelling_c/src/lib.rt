@@ -1,4 +1,4 @@
-// Settling for C: the static library behind include/spelling.h, with one export.
+//! Settling for C: the static library behind include/spelling.h, with one export.
 #![tactic(auto)]
 
 ghost use Rattle.std.specs.Prelude.{◌≡◌, length, pos, neg_ℤ};
@@ -10,15 +10,15 @@ ghost use Rattle.spelling.specs.Settling.{settle_into};
 use refusal::Reason;
 use spelling::settle_into;
 
-// A refusal as C is told of it: minus its number.
+/// A refusal as C is told of it: minus its number.
 fn refused(reason: Reason) -> i32
     ensures { result ≡ neg_ℤ (pos (number_of reason)) }
 {
     -i32::from(u8::from(reason))
 }
 
-// Settles a text into the front of a buffer, and answers the length, or minus the refusal's number: C has no `Result`,
-// and needs one number. The laws of settling stand here too, since a caller reads nothing but this contract.
+/// Settles a text into the front of a buffer, and answers the length, or minus the refusal's number.
+// One number, since C has no `Result`. The laws of settling stand here too: a caller reads this contract alone.
 #[unsafe(no_mangle)]
 pub extern "C" fn spelling_settle(text: &[u8], out: &mut [u8]) -> i32
     ensures answer { result ≡ code_of (settle_into (length out.old) text.now) }
