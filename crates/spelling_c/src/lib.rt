@@ -1,21 +1,12 @@
 //! Settling for C: the static library behind include/spelling.h, with one export.
 #![tactic(auto)]
 
-ghost use Rattle.std.specs.Prelude.{◌≡◌, length, pos, neg_ℤ};
-ghost use Rattle.refusal.specs.Numbers.{number_of};
+ghost use Rattle.std.specs.Prelude.{◌≡◌, length};
 ghost use Rattle.spelling.specs.Faces.{code_of, buffer_after};
 ghost use Rattle.spelling.specs.Laws.{Lawful};
 ghost use Rattle.spelling.specs.Settling.{settle_into};
 
-use refusal::Reason;
 use spelling::settle_into;
-
-/// A refusal as C is told of it: minus its number.
-fn refused(reason: Reason) -> i32
-    ensures { result ≡ neg_ℤ (pos (number_of reason)) }
-{
-    -i32::from(u8::from(reason))
-}
 
 /// Settles a text into the front of a buffer, and answers the length, or minus the refusal's number.
 // One number, since C has no `Result`. The laws of settling stand here too: a caller reads this contract alone.
@@ -27,6 +18,6 @@ pub extern "C" fn spelling_settle(text: &[u8], out: &mut [u8]) -> i32
 {
     match settle_into(text, out) {
         Ok(len) => len as i32,
-        Err(reason) => refused(reason),
+        Err(reason) => -i32::from(u8::from(reason)),
     }
 }
