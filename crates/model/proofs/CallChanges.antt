@@ -1,7 +1,6 @@
 -- What a call may change of kept records, names and marks: nothing becomes kept that was not; names stay on file but at
 -- the commit; and whatever becomes marked is held, or a held record or a marked one leads to it.
-use Rattle.std.proofs.Common.{◌≡◌, ℕ, zero, suc, ◌≤◌, Bool, true, false, not, T, ◌≢◌, ◌⊎◌, List, length, sym, refl, ap, ◌∙◌, subst, inl, inr, arith, eq-eqb}
-use mathlib.Core.Option.{none, some}
+use Rattle.std.proofs.Common.{◌≡◌, ℕ, zero, suc, ◌≤◌, Bool, true, false, not, T, ◌≢◌, ◌⊎◌, List, length, sym, refl, ap, ◌∙◌, subst, inl, inr, arith, eq-eqb, Some, None}
 use Rattle.std.proofs.lemmas.Bool.{cond_both}
 use Rattle.model.specs.declared.Colour.TheVariants.{White}
 use Rattle.model.specs.declared.Phase.TheVariants.{Cleaning, Scanning, Tracing}
@@ -42,7 +41,7 @@ pub record Commit (c : Call) (s s' : State) : Type 0 where
   pub cards : (k : ℕ) → s'.card k ≡ s.card k
 
 pub record Changes (c : Call) (s s' : State) : Type 0 where
-  pub back : (d : ℕ) → Keeps s' d → Keeps s d ⊎ (colour (s.cell d) ≡ none)
+  pub back : (d : ℕ) → Keeps s' d → Keeps s d ⊎ (colour (s.cell d) ≡ None)
   pub names : SameNames s s' ⊎ Commit c s s'
   pub marks : (d : ℕ) → Marked (colour (s'.cell d)) → Marked (colour (s.cell d)) ⊎ Touched s s' d
 
@@ -94,12 +93,12 @@ module _ (s : State) (b : Book) (place : ℕ → ℕ) (inv : Inv s b place) wher
       go d (inr e) = inr (in_hand j h (filled (grey_if t s v) j h v refl rng ∙ e))
 
   -- a new record goes into a hand; live cards stay as they are
-  taken_change : (c : Call) (pick : ℕ) (x : Cell) (card' : ℕ → Card) (l j h : ℕ) → colour (s.cell pick) ≡ none →
+  taken_change : (c : Call) (pick : ℕ) (x : Cell) (card' : ℕ → Card) (l j h : ℕ) → colour (s.cell pick) ≡ None →
       (1 ≤ h) × (h ≤ 8) →
       ((k : ℕ) → LiveCard s k → card' k ≡ s.card k) →
       Changes c s (set_hand (with_cards (with_cells s (upd s.cell pick x)) card' l) j h pick)
   taken_change c pick x card' l j h vac rng stay = record {
-    back = λ d. upd_elim (λ y. Kept s.phase s.cursor d y → Keeps s d ⊎ (colour (s.cell d) ≡ none)) s.cell pick d x
+    back = λ d. upd_elim (λ y. Kept s.phase s.cursor d y → Keeps s d ⊎ (colour (s.cell d) ≡ None)) s.cell pick d x
         (λ e u. inr (ap (λ (m : ℕ). colour (s.cell m)) (sym e) ∙ vac)) (λ e u. inl u);
     names = inl (λ k v. subst (λ (y : Card). Live (upd s.cell pick x) s.phase y × (y.spelling ≡ (s.card k).spelling))
         (sym (stay k v)) (alive k v, refl));
@@ -113,17 +112,17 @@ module _ (s : State) (b : Book) (place : ℕ → ℕ) (inv : Inv s b place) wher
       alive : (k : ℕ) → LiveCard s k → Live (upd s.cell pick x) s.phase (s.card k)
       alive k v = record {
         filled = v.filled;
-        not_white = λ e. subst (λ (y : Cell). colour y ≢ some White)
+        not_white = λ e. subst (λ (y : Cell). colour y ≢ Some White)
             (sym (upd_other s.cell pick (s.card k).record_at x
             (λ q. (inv.cards.live k v).0.in_use (ap (λ (m : ℕ). colour (s.cell m)) (sym q) ∙ vac)))) (v.not_white e);
       }
 
-  make_change : (c : Call) (pick j h w : ℕ) → colour (s.cell pick) ≡ none → (1 ≤ h) × (h ≤ 8) →
+  make_change : (c : Call) (pick j h w : ℕ) → colour (s.cell pick) ≡ None → (1 ≤ h) × (h ≤ 8) →
       Changes c s (set_hand (taken s pick 0 w) j h pick)
   unfolding taken
   make_change c pick j h w vac rng = taken_change c pick _ s.card s.last_card j h vac rng (λ k v. refl)
 
-  settle_change : (c : Call) (pick j h w : ℕ) (t : List ℕ) → colour (s.cell pick) ≡ none → (1 ≤ h) × (h ≤ 8) →
+  settle_change : (c : Call) (pick j h w : ℕ) (t : List ℕ) → colour (s.cell pick) ≡ None → (1 ≤ h) × (h ≤ 8) →
       vacant_card s ≢ 0 → Changes c s (set_hand (filed_on (taken s pick (vacant_card s) w) (vacant_card s) t pick) j h pick)
   unfolding taken filed_on
   settle_change c pick j h w t vac rng vacancy = taken_change c pick _ _ (vacant_card s) j h vac rng

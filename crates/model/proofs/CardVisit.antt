@@ -1,6 +1,5 @@
 -- The visit of a card whose record is white, in CLEANING, keeps the invariant.
-use Rattle.std.proofs.Common.{◌≡◌, ℕ, ◌<◌, ◌≤◌, ◌≢◌, ◌⊎◌, List, sym, refl, ap, ◌∙◌, subst, inl, inr}
-use mathlib.Core.Option.{Option, none, some}
+use Rattle.std.proofs.Common.{◌≡◌, ℕ, ◌<◌, ◌≤◌, ◌≢◌, ◌⊎◌, List, sym, refl, ap, ◌∙◌, subst, inl, inr, Option, Some, None}
 use Rattle.std.proofs.lemmas.Bool.{cases_eq}
 use Rattle.model.specs.declared.Colour.TheVariants.{White}
 use Rattle.model.specs.declared.Phase.{Phase}
@@ -12,7 +11,7 @@ use Rattle.model.proofs.Invariant.{Inv, Kept, Live, Spared}
 use Rattle.model.proofs.TableLaws.{upd_all, upd_elim, upd_other, upd_same}
 
 pub clean_keeps : (s : State) (b : Book) (place : ℕ → ℕ) → Inv s b place → s.phase ≡ Cleaning →
-    colour (s.cell (s.card s.cursor).record_at) ≡ some White →
+    colour (s.cell (s.card s.cursor).record_at) ≡ Some White →
     Inv (with_cards s (upd s.card s.cursor (record { spelling = (s.card s.cursor).spelling; record_at = 0 }))
     s.last_card) b place
 clean_keeps s b place inv e z = record {
@@ -27,7 +26,7 @@ clean_keeps s b place inv e z = record {
         (upd_other s.card c (card_of (f d)) C
         (λ q. dead d k (ap (λ (m : ℕ). (s.card m).record_at) q ∙ inv.cards.back d k n))) ∙ inv.cards.back d k n;
     distinct = λ k m a d. inv_distinct k m (cases_eq c k) (cases_eq c m) a d;
-    cleared = λ q. upd_all (λ k x. 1 ≤ k → k < cur → x.record_at ≢ 0 → colour (f x.record_at) ≢ some White) s.card c C
+    cleared = λ q. upd_all (λ k x. 1 ≤ k → k < cur → x.record_at ≢ 0 → colour (f x.record_at) ≢ Some White) s.card c C
         (λ lo hi n. absurd (n refl)) (λ k n. inv.cards.cleared q k);
   };
   hands = inv.hands;
@@ -68,8 +67,8 @@ clean_keeps s b place inv e z = record {
     dead d k q = subst (λ (r : Phase). Spared r cur d) e (k.spared (ap (λ (m : ℕ). colour (f m)) (sym q) ∙ z))
 
     bears : (n : Option (List ℕ)) (k : ℕ) → Bears s.card n k → Bears (upd s.card c C) n k
-    bears none k h = h
-    bears (some sp) k h = (
+    bears None k h = h
+    bears (Some sp) k h = (
       h.0,
       upd_elim (λ x. x.spelling ≡ sp) s.card c k C
           (λ q. ap (λ (m : ℕ). (s.card m).spelling) q ∙ h.1) (λ q. h.1),

@@ -1,6 +1,5 @@
 -- Cells, phase and cursor move on, while cards, book and places stay: what is carried over.
-use Rattle.std.proofs.Common.{◌≡◌, ℕ, ◌<◌, ◌≤◌, false, ◌≢◌, ◌⊎◌, List, length, sym, ap, ◌∙◌, subst, inl, inr}
-use mathlib.Core.Option.{Option, none, some}
+use Rattle.std.proofs.Common.{◌≡◌, ℕ, ◌<◌, ◌≤◌, false, ◌≢◌, ◌⊎◌, List, length, sym, ap, ◌∙◌, subst, inl, inr, Option, Some, None}
 use Rattle.model.specs.declared.Colour.TheVariants.{Black, White}
 use Rattle.model.specs.declared.Phase.{Phase}
 use Rattle.model.specs.declared.Phase.TheVariants.{Cleaning}
@@ -11,13 +10,13 @@ use Rattle.model.proofs.Invariant.{CardsOk, Flags, JobOk, Kept, Live, Marked, Ma
 -- what is protected stays protected
 pub protected_map : (f f' : ℕ → Cell)
     → ((d : ℕ) → Marked (colour (f d)) → Marked (colour (f' d)))
-    → ((q i : ℕ) → colour (f q) ≢ some Black → at (slots (f q)) i ≢ 0 →
-    Marked (colour (f' (at (slots (f q)) i))) ⊎ ((colour (f' q) ≢ some Black) × (at (slots (f' q)) i ≡ at (slots (f q)) i)))
+    → ((q i : ℕ) → colour (f q) ≢ Some Black → at (slots (f q)) i ≢ 0 →
+    Marked (colour (f' (at (slots (f q)) i))) ⊎ ((colour (f' q) ≢ Some Black) × (at (slots (f' q)) i ≡ at (slots (f q)) i)))
     → {c : ℕ} → Protected f c → Protected f' c
 protected_map f f' a b (marked l) = marked (a _ l)
 protected_map f f' a b (via {q = q} {c = c} i g n e z) = go (b q i n (λ w. z (sym e ∙ w))) (protected_map f f' a b g)
   where
-    go : Marked (colour (f' (at (slots (f q)) i))) ⊎ ((colour (f' q) ≢ some Black) × (at (slots (f' q)) i ≡ at (slots (f q)) i)) →
+    go : Marked (colour (f' (at (slots (f q)) i))) ⊎ ((colour (f' q) ≢ Some Black) × (at (slots (f' q)) i ≡ at (slots (f q)) i)) →
         Protected f' q → Protected f' c
     go (inl l) h = marked (subst (λ (m : ℕ). Marked (colour (f' m))) e l)
     go (inr t) h = via i h t.0 (t.1 ∙ e) z
@@ -42,7 +41,7 @@ pub record CardsMove (f f' : ℕ → Cell) (p p' : Phase) (cur cur' : ℕ) (card
   pub unlive : (k : ℕ) → Live f' p' (card k) → Live f p (card k)
   pub lives : (k : ℕ) → Live f' p' (card k) → Kept p cur (card k).record_at (f (card k).record_at) →
       Kept p' cur' (card k).record_at (f' (card k).record_at)
-  pub clears : p' ≡ Cleaning → (k : ℕ) → 1 ≤ k → k < cur' → (card k).record_at ≢ 0 → colour (f' (card k).record_at) ≢ some White
+  pub clears : p' ≡ Cleaning → (k : ℕ) → 1 ≤ k → k < cur' → (card k).record_at ≢ 0 → colour (f' (card k).record_at) ≢ Some White
 
 module _ {f f' : ℕ → Cell} {p p' : Phase} {cur cur' : ℕ} where
   pub leads_move : Shrinks f f' p p' cur cur' → ((d : ℕ) → Kept p cur d (f d) → Kept p' cur' d (f' d)) →
@@ -73,7 +72,7 @@ module _ {f f' : ℕ → Cell} {p p' : Phase} {cur cur' : ℕ} where
 
   pub recs_move : {card : ℕ → Card} {count : ℕ} {width : ℕ → ℕ} {slot : ℕ → ℕ → ℕ} {name : ℕ → Option (List ℕ)} {place : ℕ → ℕ} →
       Shrinks f f' p p' cur cur' → ((k : ℕ) → Live f' p' (card k) → Live f p (card k)) →
-      ((d : ℕ) → colour (f d) ≢ none → colour (f' d) ≢ none) → ((d : ℕ) → colour (f' d) ≢ none → colour (f d) ≢ none) →
+      ((d : ℕ) → colour (f d) ≢ None → colour (f' d) ≢ None) → ((d : ℕ) → colour (f' d) ≢ None → colour (f d) ≢ None) →
       RecsOk f p cur card count width slot name place → RecsOk f' p' cur' card count width slot name place
   recs_move {card} {count} {width} {slot} {name} {place} sh unlive to from ok = record {
     none_at = ok.none_at;

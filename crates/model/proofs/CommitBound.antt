@@ -1,7 +1,6 @@
 -- The commit comes within N × (2N + 1) trace steps. While tracing, each round but the last makes the heap lighter by at
 -- least 1, and it weighs 2N at most.
-use Rattle.std.proofs.Common.{◌≡◌, ℕ, zero, suc, ◌+◌, ◌*◌, ◌<◌, ◌≤◌, cond, T, ltb, sym, refl, ap, subst, mul-le-mul_right, arith}
-use mathlib.Core.Option.{some}
+use Rattle.std.proofs.Common.{◌≡◌, ℕ, zero, suc, ◌+◌, ◌*◌, ◌<◌, ◌≤◌, cond, T, ltb, sym, refl, ap, subst, mul-le-mul_right, arith, Some}
 use Rattle.std.proofs.lemmas.Bool.{cond_both}
 use Rattle.model.specs.declared.Colour.TheVariants.{Black, Grey}
 use Rattle.model.specs.declared.Phase.{Phase}
@@ -73,7 +72,7 @@ steady_bounds s s' t l b = rw (l.size_is, l.rounds_is, l.cursor_is)
 
 module _ (s : State) (t : ℕ) where
   -- a visit of a grey cell makes the heap lighter
-  scan_lighter : colour (s.cell s.cursor) ≡ some Grey → 1 ≤ s.cursor → s.cursor ≤ s.size →
+  scan_lighter : colour (s.cell s.cursor) ≡ Some Grey → 1 ≤ s.cursor → s.cursor ≤ s.size →
       total (scanned s).cell s.size < total s.cell s.size
   unfolding scanned
   scan_lighter a lo hi = total_lt s.cell (upd g s.cursor (painted Black (g s.cursor))) s.size s.cursor le lo hi
@@ -85,7 +84,7 @@ module _ (s : State) (t : ℕ) where
       greyer : (d : ℕ) → Greyer (s.cell d) (g d)
       greyer = grey_list s.cell (slots (s.cell s.cursor))
 
-      is_black : colour (painted Black (g s.cursor)) ≡ some Black
+      is_black : colour (painted Black (g s.cursor)) ≡ Some Black
       is_black = black_colour (g s.cursor) (used_greyer (greyer s.cursor) (λ z. clash cc))
 
       le : Lighter s.cell (upd g s.cursor (painted Black (g s.cursor)))
@@ -97,7 +96,7 @@ module _ (s : State) (t : ℕ) where
       less = let u = ap (λ (x : Cell). weight (colour x)) (upd_same g s.cursor (painted Black (g s.cursor))) in let v =
           ap weight is_black in let w = ap weight a in omega arith
 
-  scanned_bounds : colour (s.cell s.cursor) ≡ some Grey → 1 ≤ s.cursor → s.cursor ≤ s.size →
+  scanned_bounds : colour (s.cell s.cursor) ≡ Some Grey → 1 ≤ s.cursor → s.cursor ≤ s.size →
       t + s.size + 1 ≡ s.rounds * s.size + s.cursor → total s.cell s.size + s.rounds ≤ 2 * s.size + 1 →
       Bounded Repeat (scanned s).size (scanned s).rounds (scanned s).cursor t (total (scanned s).cell (scanned s).size)
   unfolding scanned

@@ -1,6 +1,5 @@
 -- Greying keeps the invariant, whatever spared records become grey.
-use Rattle.std.proofs.Common.{◌≡◌, ℕ, zero, suc, Bool, ◌≢◌, ◌⊎◌, List, [], ◌∷◌, sym, refl, ap, ◌∙◌, subst, inl, inr, arith}
-use mathlib.Core.Option.{Option, none, some}
+use Rattle.std.proofs.Common.{◌≡◌, ℕ, zero, suc, Bool, ◌≢◌, ◌⊎◌, List, [], ◌∷◌, sym, refl, ap, ◌∙◌, subst, inl, inr, arith, Option, Some, None}
 use Rattle.model.specs.declared.Colour.{Colour}
 use Rattle.model.specs.declared.Colour.TheVariants.{Black, Grey, White}
 use Rattle.model.specs.declared.Phase.{Phase}
@@ -15,7 +14,7 @@ use Rattle.model.proofs.TableLaws.{upd_elim}
 
 -- a colour stays, or turns from white to grey
 abbrev pub Turn : Option Colour → Option Colour → Type 0
-Turn a b = (b ≡ a) ⊎ ((a ≡ some White) × (b ≡ some Grey))
+Turn a b = (b ≡ a) ⊎ ((a ≡ Some White) × (b ≡ Some Grey))
 
 -- a cell before and after: the same record, perhaps turned from white to grey
 pub record Greyer (x y : Cell) : Type 0 where
@@ -64,51 +63,51 @@ marked_greyer {x} {y} a l = go a.how
     go (inl e) = subst Marked (sym e) l
     go (inr e) = subst Marked (sym e.1) tt
 
-pub used_greyer : {x y : Cell} → Greyer x y → colour x ≢ none → colour y ≢ none
+pub used_greyer : {x y : Cell} → Greyer x y → colour x ≢ None → colour y ≢ None
 used_greyer {x} {y} a n v = go a.how
   where
     go : Turn (colour x) (colour y) → ⊥
     go (inl e) = n (sym e ∙ v)
     go (inr e) = let z : ◌≡◌ {A = ℕ} 0 1 = cc in omega arith
 
-pub unused_greyer : {x y : Cell} → Greyer x y → colour y ≢ none → colour x ≢ none
+pub unused_greyer : {x y : Cell} → Greyer x y → colour y ≢ None → colour x ≢ None
 unused_greyer {x} {y} a n v = go a.how
   where
     go : Turn (colour x) (colour y) → ⊥
     go (inl e) = n (e ∙ v)
     go (inr e) = let z : ◌≡◌ {A = ℕ} 0 1 = cc in omega arith
 
-black_greyer : {x y : Cell} → Greyer x y → colour y ≡ some Black → colour x ≡ some Black
+black_greyer : {x y : Cell} → Greyer x y → colour y ≡ Some Black → colour x ≡ Some Black
 black_greyer {x} {y} a v = go a.how
   where
-    go : Turn (colour x) (colour y) → colour x ≡ some Black
+    go : Turn (colour x) (colour y) → colour x ≡ Some Black
     go (inl e) = sym e ∙ v
     go (inr e) = cc
 
-pub none_greyer : {x y : Cell} → Greyer x y → colour x ≡ none → colour y ≡ none
+pub none_greyer : {x y : Cell} → Greyer x y → colour x ≡ None → colour y ≡ None
 none_greyer {x} {y} a v = go a.how
   where
-    go : Turn (colour x) (colour y) → colour y ≡ none
+    go : Turn (colour x) (colour y) → colour y ≡ None
     go (inl e) = e ∙ v
     go (inr e) = absurd (free_white v e.0)
 
 -- after greying, a used cell is grey or black
-marked_greyed : (x : Cell) → colour x ≢ none → Marked (colour (greyed x))
+marked_greyed : (x : Cell) → colour x ≢ None → Marked (colour (greyed x))
 marked_greyed free n = absurd (n refl)
 marked_greyed (used White k l) n = tt
 marked_greyed (used Grey k l) n = tt
 marked_greyed (used Black k l) n = tt
 
-pub greyed_grey : (x : Cell) → colour x ≡ some White → colour (greyed x) ≡ some Grey
+pub greyed_grey : (x : Cell) → colour x ≡ Some White → colour (greyed x) ≡ Some Grey
 greyed_grey free e = cc
 greyed_grey (used White k l) e = refl
 greyed_grey (used Grey k l) e = refl
 greyed_grey (used Black k l) e = cc
 
-pub marked_one : (f : ℕ → Cell) (c : ℕ) → colour (f c) ≢ none → Marked (colour (upd f c (greyed (f c)) c))
+pub marked_one : (f : ℕ → Cell) (c : ℕ) → colour (f c) ≢ None → Marked (colour (upd f c (greyed (f c)) c))
 marked_one f c n = upd_elim (λ y. Marked (colour y)) f c c (greyed (f c)) (λ e. marked_greyed (f c) n) (λ q. absurd (q refl))
 
-pub marked_list : (f : ℕ → Cell) (l : List ℕ) (i : ℕ) → at l i ≢ 0 → colour (f (at l i)) ≢ none →
+pub marked_list : (f : ℕ → Cell) (l : List ℕ) (i : ℕ) → at l i ≢ 0 → colour (f (at l i)) ≢ None →
     Marked (colour (grey_all f l (at l i)))
 unfolding grey_all
 marked_list f [] zero h n = absurd (h refl)
@@ -174,7 +173,7 @@ repeats_uncleaning turns e = cc
 pub record Greys (f g : ℕ → Cell) (p q : Phase) (cur : ℕ) : Type 0 where
   pub greyer : AllGreyer f g
   pub repeats : Repeats p q
-  pub spare : (d : ℕ) → colour (f d) ≡ some White → colour (g d) ≡ some Grey → Spared p cur d
+  pub spare : (d : ℕ) → colour (f d) ≡ Some White → colour (g d) ≡ Some Grey → Spared p cur d
   pub colours : ((d : ℕ) → ColourOk p cur d (colour (f d))) → (d : ℕ) → ColourOk q cur d (colour (g d))
 
 pub greys_refl : (f : ℕ → Cell) (p : Phase) (cur : ℕ) → Greys f f p p cur
@@ -189,14 +188,14 @@ module _ {f g : ℕ → Cell} {p q : Phase} {cur : ℕ} (gr : Greys f g p q cur)
   pub grey_keep : (d : ℕ) → Kept p cur d (f d) → Kept q cur d (g d)
   grey_keep d k = record { in_use = used_greyer (gr.greyer d) k.in_use; spared = λ e. go e (gr.greyer d).how }
     where
-      go : colour (g d) ≡ some White → Turn (colour (f d)) (colour (g d)) → Spared q cur d
+      go : colour (g d) ≡ Some White → Turn (colour (f d)) (colour (g d)) → Spared q cur d
       go e (inl h) = repeats_spared cur d gr.repeats (k.spared (sym h ∙ e))
       go e (inr h) = absurd (grey_white h.1 e)
 
   pub grey_unkeep : (d : ℕ) → Kept q cur d (g d) → Kept p cur d (f d)
   grey_unkeep d k = record { in_use = unused_greyer (gr.greyer d) k.in_use; spared = λ e. go e (gr.greyer d).how }
     where
-      go : colour (f d) ≡ some White → Turn (colour (f d)) (colour (g d)) → Spared p cur d
+      go : colour (f d) ≡ Some White → Turn (colour (f d)) (colour (g d)) → Spared p cur d
       go e (inl h) = repeats_unspared cur d gr.repeats (k.spared (h ∙ e))
       go e (inr h) = gr.spare d e h.1
 
@@ -206,14 +205,14 @@ module _ {f g : ℕ → Cell} {p q : Phase} {cur : ℕ} (gr : Greys f g p q cur)
     not_white = λ e z. go (l.not_white (repeats_uncleaning gr.repeats e)) z (gr.greyer x.record_at).how;
   }
     where
-      go : {a b : Option Colour} → a ≢ some White → b ≡ some White → Turn a b → ⊥
+      go : {a b : Option Colour} → a ≢ Some White → b ≡ Some White → Turn a b → ⊥
       go n z (inl h) = n (sym h ∙ z)
       go n z (inr h) = n h.0
 
   grey_unlive : (x : Card) → Live g q x → Live f p x
   grey_unlive x l = record { filled = l.filled; not_white = λ e z. go e z (gr.greyer x.record_at).how }
     where
-      go : p ≡ Cleaning → colour (f x.record_at) ≡ some White → Turn (colour (f x.record_at)) (colour (g x.record_at)) →
+      go : p ≡ Cleaning → colour (f x.record_at) ≡ Some White → Turn (colour (f x.record_at)) (colour (g x.record_at)) →
           ⊥
       go e z (inl h) = l.not_white (repeats_cleaning gr.repeats e) (h ∙ z)
       go e z (inr h) = subst (λ (r : Phase). Spared r cur x.record_at) e (gr.spare x.record_at z h.1)
@@ -252,7 +251,7 @@ module _ {f g : ℕ → Cell} {p q : Phase} {cur : ℕ} (gr : Greys f g p q cur)
         (gr.greyer (card k).record_at).how;
   }) ok
     where
-      go : (x y : Option Colour) → x ≢ some White → y ≡ some White → Turn x y → ⊥
+      go : (x y : Option Colour) → x ≢ Some White → y ≡ Some White → Turn x y → ⊥
       go x y a z (inl h) = a (sym h ∙ z)
       go x y a z (inr h) = a h.0
 

@@ -1,7 +1,6 @@
 -- Calls of a job that make no record and grey none keep the invariant: open, close, park, wake, nod, load, copy, drop
 -- and follow.
-use Rattle.std.proofs.Common.{◌≡◌, ℕ, suc, ◌≤◌, true, false, not, eqb, ◌≢◌, ◌⊎◌, List, [], ◌∷◌, Result, sym, refl, ◌∙◌, subst, inl, inr}
-use mathlib.Core.Option.{some}
+use Rattle.std.proofs.Common.{◌≡◌, ℕ, suc, ◌≤◌, true, false, not, eqb, ◌≢◌, ◌⊎◌, List, [], ◌∷◌, Result, sym, refl, ◌∙◌, subst, inl, inr, Some}
 use borrow.Author.Tests.{eqb-false, not-true}
 use Rattle.std.proofs.lemmas.Bool.{cond_both}
 use Rattle.refusal.specs.declared.Refusal.{Refusal}
@@ -68,7 +67,7 @@ module _ (s : State) (b : Book) (place : ℕ → ℕ) (inv : Inv s b place) wher
   }
     where
       go : Marking s.phase → at (slots (s.cell c)) i ≢ 0 → Protected s.cell c →
-          (colour (s.cell c) ≡ some Black) ⊎ (colour (s.cell c) ≢ some Black) → Protected s.cell (at (slots (s.cell c)) i)
+          (colour (s.cell c) ≡ Some Black) ⊎ (colour (s.cell c) ≢ Some Black) → Protected s.cell (at (slots (s.cell c)) i)
       go t n h (inl e) = inv.heap.protects t c e i n
       go t n h (inr e) = via i h e refl n
 

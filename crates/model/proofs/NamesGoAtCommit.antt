@@ -1,6 +1,5 @@
 -- A name goes off file only at a commit, unreached, and with every name whose record leads to its own.
-use Rattle.std.proofs.Common.{◌≡◌, ℕ, ◌<◌, ◌≤◌, ◌≢◌, ◌⊎◌, List, sym, ap, ◌∙◌, subst, inl, inr}
-use mathlib.Core.Option.{some}
+use Rattle.std.proofs.Common.{◌≡◌, ℕ, ◌<◌, ◌≤◌, ◌≢◌, ◌⊎◌, List, sym, ap, ◌∙◌, subst, inl, inr, Some}
 use Rattle.std.proofs.lemmas.Bool.{cases_eq, cases_lt}
 use Rattle.model.specs.declared.Phase.{Phase}
 use Rattle.model.specs.declared.Phase.TheVariants.{Cleaning, Tracing}
@@ -63,7 +62,7 @@ module _ (x : World) (c : Call) (pick : ℕ) (right : Picks x.state pick) (inv :
         }))
         (ap (λ (z : Card). z.spelling) (commits.cards k) ∙ was_live.1) lose.1
 
-    module _ (q : ℕ) (u : List ℕ) (n : x.place q ≢ 0) (e : x.book.name q ≡ some u) where
+    module _ (q : ℕ) (u : List ℕ) (n : x.place q ≢ 0) (e : x.book.name q ≡ Some u) where
       stands_q : Stands s x.place q
       stands_q = record {
         placed = n;

@@ -1,6 +1,5 @@
 -- Find, make and settle keep the invariant.
-use Rattle.std.proofs.Common.{◌≡◌, ℕ, suc, ◌≤◌, Bool, true, false, not, ◌≢◌, List, replicate, sym, refl, ap, ◌∙◌, subst, inl, inr, arith}
-use mathlib.Core.Option.{Option, none, some}
+use Rattle.std.proofs.Common.{◌≡◌, ℕ, suc, ◌≤◌, Bool, true, false, not, ◌≢◌, List, replicate, sym, refl, ap, ◌∙◌, subst, inl, inr, arith, Option, Some, None}
 use Rattle.std.proofs.lemmas.Bool.{cases_Bool}
 use Rattle.model.specs.declared.Colour.TheVariants.{White}
 use Rattle.model.specs.declared.Phase.{Phase}
@@ -36,8 +35,8 @@ finds_greying Sweeping owes e = clash cc
 marking_greys : (p : Phase) (owes : Bool) → owes ≡ false → Marking p → find_greys p owes ≡ true
 marking_greys p owes e = marking_cases (λ q. find_greys q owes ≡ true) (ap not e) refl refl p
 
-new_marked : (p : Phase) (cur c : ℕ) → Marking p → Marked (some (new_colour p cur c))
-new_marked p cur c = marking_cases (λ q. Marked (some (new_colour q cur c))) tt tt tt p
+new_marked : (p : Phase) (cur c : ℕ) → Marking p → Marked (Some (new_colour p cur c))
+new_marked p cur c = marking_cases (λ q. Marked (Some (new_colour q cur c))) tt tt tt p
 
 module _ (s : State) (b : Book) (place : ℕ → ℕ) (inv : Inv s b place) where
   -- the record on a live card goes into a hand
@@ -61,7 +60,7 @@ module _ (s : State) (b : Book) (place : ℕ → ℕ) (inv : Inv s b place) wher
       g : Bool
       g = find_greys s.phase (s.job j).owes
 
-      greying : g ≡ true → colour (s.cell c) ≡ some White → Greying s.phase
+      greying : g ≡ true → colour (s.cell c) ≡ Some White → Greying s.phase
       greying e z = finds_greying s.phase (s.job j).owes e
 
       greys : Greys s.cell (cells_if g s.cell c) s.phase (phase_if g (s.cell c) s.phase) s.cursor
@@ -76,7 +75,7 @@ module _ (s : State) (b : Book) (place : ℕ → ℕ) (inv : Inv s b place) wher
       h _ (text name) run (hand_range h hs) l.0 l.1
 
   -- the new record may go into a hand
-  new_may : (pick k w : ℕ) (row : Job) → 1 ≤ pick → colour (s.cell pick) ≡ none →
+  new_may : (pick k w : ℕ) (row : Job) → 1 ≤ pick → colour (s.cell pick) ≡ None →
       MayHold (upd s.cell pick (used (new_colour s.phase s.cursor pick) k (replicate w 0))) s.phase s.cursor row
       (upd place (suc b.count) pick) (suc b.count) pick
   new_may pick k w row lo vac = record {
@@ -98,17 +97,17 @@ module _ (s : State) (b : Book) (place : ℕ → ℕ) (inv : Inv s b place) wher
       (λ e. let q = latest_most b.name b.count (s.card m).spelling in omega arith) ∙ inv.recs.newest m l
 
   module _ (pick w : ℕ) (right : FreeCell s pick) where
-    taken_keeps : Inv (taken s pick 0 w) (new_record b w none) (upd place (suc b.count) pick)
+    taken_keeps : Inv (taken s pick 0 w) (new_record b w None) (upd place (suc b.count) pick)
     unfolding taken
     taken_keeps = record {
       heap = take_heap f p cur pick 0 w vac s.size right.lowest right.highest inv.heap;
       jobs = λ j. take_job f p cur pick 0 w vac j (s.job j) (inv.jobs j);
       cards = take_cards f p cur pick 0 w vac refl s.card inv.cards;
-      hands = λ j h. take_rel f p cur pick 0 w vac s.card s.card b.count b.width b.slot b.name place none
+      hands = λ j h. take_rel f p cur pick 0 w vac s.card s.card b.count b.width b.slot b.name place None
           inv.recs _ _ (inv.hands j h);
-      recs = take_recs f p cur pick 0 w vac s.card s.card b.count b.width b.slot b.name place none inv.recs
+      recs = take_recs f p cur pick 0 w vac s.card s.card b.count b.width b.slot b.name place None inv.recs
           inv.heap.no_zero right.lowest (λ c h n. refl) refl
-          (λ m l. still_newest pick m none (take_unlive f p cur pick 0 w vac (s.card m) l) refl);
+          (λ m l. still_newest pick m None (take_unlive f p cur pick 0 w vac (s.card m) l) refl);
       lasts = inv.lasts;
     }
       where
@@ -121,21 +120,21 @@ module _ (s : State) (b : Book) (place : ℕ → ℕ) (inv : Inv s b place) wher
         cur : ℕ
         cur = s.cursor
 
-        vac : colour (s.cell pick) ≡ none
+        vac : colour (s.cell pick) ≡ None
         vac = right.vacant
 
     pub make_keeps : (j h : ℕ) → Passed (job_checks s j (make h w)) →
-        Inv (set_hand (taken s pick 0 w) j h pick) (hold (new_record b w none) j h (suc b.count))
+        Inv (set_hand (taken s pick 0 w) j h pick) (hold (new_record b w None) j h (suc b.count))
         (upd place (suc b.count) pick)
     unfolding taken
-    make_keeps j h (hs, (width, (run, rest))) = hand_keeps (taken s pick 0 w) (new_record b w none)
+    make_keeps j h (hs, (width, (run, rest))) = hand_keeps (taken s pick 0 w) (new_record b w None)
         (upd place (suc b.count) pick) j h (suc b.count) pick taken_keeps (running_open _ run) (hand_range h hs)
         (new_may pick 0 w (s.job j) right.lowest right.vacant)
 
     -- a new record, filed on a card that read as empty, under a name that was off file
     filed_keeps : (k : ℕ) (t : List ℕ) → (1 ≤ k) × (k ≤ 512) → (LiveCard s k → ⊥) →
         ((m : ℕ) → LiveCard s m → (s.card m).spelling ≢ t) →
-        Inv (filed_on (taken s pick k w) k t pick) (new_record b w (some t)) (upd place (suc b.count) pick)
+        Inv (filed_on (taken s pick k w) k t pick) (new_record b w (Some t)) (upd place (suc b.count) pick)
     unfolding taken filed_on
     filed_keeps k t rng dead off = record {
       heap = take_heap f p cur pick k w vac s.size right.lowest right.highest inv.heap;
@@ -143,18 +142,18 @@ module _ (s : State) (b : Book) (place : ℕ → ℕ) (inv : Inv s b place) wher
       cards = file_cards f p cur pick k w vac t s.card s.size inv.heap rng.0 rng.1 right.lowest dead off
           inv.cards;
       hands = λ j h. take_rel f p cur pick k w vac s.card (upd s.card k C) b.count b.width b.slot b.name place
-          (some t) inv.recs _ _ (inv.hands j h);
-      recs = take_recs f p cur pick k w vac s.card (upd s.card k C) b.count b.width b.slot b.name place (some t)
+          (Some t) inv.recs _ _ (inv.hands j h);
+      recs = take_recs f p cur pick k w vac s.card (upd s.card k C) b.count b.width b.slot b.name place (Some t)
           inv.recs inv.heap.no_zero right.lowest
           (λ c h n. upd_other s.card k (card_of (f c)) C
           (not_empty f p cur pick k w vac s.card s.size inv.heap inv.cards dead c h n))
           ((λ z. let lo = rng.0 in omega arith), ap (λ (x : Card). x.spelling) (upd_same s.card k C))
           (upd_all (λ m x. Live (upd f pick (used (new_colour p cur pick) k (replicate w 0))) p x →
-          upd place (suc b.count) pick (latest (upd b.name (suc b.count) (some t)) (suc b.count) x.spelling) ≡
+          upd place (suc b.count) pick (latest (upd b.name (suc b.count) (Some t)) (suc b.count) x.spelling) ≡
           x.record_at) s.card k C
-          (λ l. ap (upd place (suc b.count) pick) (latest_new b.name b.count (some t) t (same_text_refl t))
+          (λ l. ap (upd place (suc b.count) pick) (latest_new b.name b.count (Some t) t (same_text_refl t))
           ∙ upd_same place (suc b.count) pick)
-          (λ m e l. let live = take_unlive f p cur pick k w vac (s.card m) l in still_newest pick m (some t) live
+          (λ m e l. let live = take_unlive f p cur pick k w vac (s.card m) l in still_newest pick m (Some t) live
           (other m live)));
       lasts = (rng.1, inv.lasts.1);
     }
@@ -168,7 +167,7 @@ module _ (s : State) (b : Book) (place : ℕ → ℕ) (inv : Inv s b place) wher
         cur : ℕ
         cur = s.cursor
 
-        vac : colour (s.cell pick) ≡ none
+        vac : colour (s.cell pick) ≡ None
         vac = right.vacant
 
         C : Card
@@ -181,9 +180,9 @@ module _ (s : State) (b : Book) (place : ℕ → ℕ) (inv : Inv s b place) wher
     pub settle_makes : (j : ℕ) (t : List ℕ) (h : ℕ) → is_running (s.job j).status ≡ true → (1 ≤ h) × (h ≤ 8) → filed s t ≡ 0 →
         vacant_card s ≢ 0 →
         Inv (set_hand (filed_on (taken s pick (vacant_card s) w) (vacant_card s) t pick) j h pick)
-        (hold (new_record b w (some t)) j h (suc b.count)) (upd place (suc b.count) pick)
+        (hold (new_record b w (Some t)) j h (suc b.count)) (upd place (suc b.count) pick)
     unfolding taken filed_on
-    settle_makes j t h run rng off vacancy = hand_keeps (filed_on (taken s pick k w) k t pick) (new_record b w (some t))
+    settle_makes j t h run rng off vacancy = hand_keeps (filed_on (taken s pick k w) k t pick) (new_record b w (Some t))
         (upd place (suc b.count) pick) j h (suc b.count) pick
         (filed_keeps k t (vacant_range (reads_empty s) s.last_card 512 inv.lasts.0 vacancy)
         (empty_dead s k (vacant_passes (reads_empty s) s.last_card 512 vacancy))

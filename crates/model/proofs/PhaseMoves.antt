@@ -1,6 +1,5 @@
 -- The phase moves on, while cells and cards stay: every such move keeps the invariant, the commit among them.
-use Rattle.std.proofs.Common.{◌≡◌, ℕ, suc, ◌<◌, ◌≤◌, Bool, true, false, cond, ◌&&◌, ◌≢◌, ◌⊎◌, sym, refl, ap, ◌∙◌, subst, inl, inr, arith}
-use mathlib.Core.Option.{Option, none, some}
+use Rattle.std.proofs.Common.{◌≡◌, ℕ, suc, ◌<◌, ◌≤◌, Bool, true, false, cond, ◌&&◌, ◌≢◌, ◌⊎◌, sym, refl, ap, ◌∙◌, subst, inl, inr, arith, Option, Some, None}
 use borrow.Author.Tests.{both_ways}
 use Rattle.std.proofs.lemmas.Bool.{cases_Bool, cases_eq}
 use Rattle.model.specs.declared.Colour.{Colour}
@@ -31,7 +30,7 @@ moved s t p cur r = at_phase (with_jobs s (λ j. owing_if t (s.job j)) s.last_jo
 
 -- what a move to phase q, at cursor cur, has to show: of the kept records ...
 record KeptMove (s : State) (q : Phase) (cur : ℕ) : Type 0 where
-  pub unspare : (d : ℕ) → colour (s.cell d) ≡ some White → Spared q cur d → Spared s.phase s.cursor d
+  pub unspare : (d : ℕ) → colour (s.cell d) ≡ Some White → Spared q cur d → Spared s.phase s.cursor d
   pub hand : (j h : ℕ) → at (s.job j).hands h ≢ 0 → Keeps s (at (s.job j).hands h) →
       Kept q cur (at (s.job j).hands h) (s.cell (at (s.job j).hands h))
   pub slot : (c i : ℕ) → Kept q cur c (s.cell c) → at (slots (s.cell c)) i ≢ 0 → Keeps s (at (slots (s.cell c)) i) →
@@ -43,11 +42,11 @@ record KeptMove (s : State) (q : Phase) (cur : ℕ) : Type 0 where
 record CardMove (s : State) (q : Phase) (cur : ℕ) : Type 0 where
   pub unlive : (k : ℕ) → Live s.cell q (s.card k) → LiveCard s k
   pub clears : q ≡ Cleaning → (k : ℕ) → 1 ≤ k → k < cur → (s.card k).record_at ≢ 0 →
-      colour (s.cell (s.card k).record_at) ≢ some White
+      colour (s.cell (s.card k).record_at) ≢ Some White
 
 -- ... of protection ...
 record MarkingMove (s : State) (t : Bool) (q : Phase) : Type 0 where
-  pub protects : Marking q → (c : ℕ) → colour (s.cell c) ≡ some Black → (i : ℕ) → at (slots (s.cell c)) i ≢ 0 →
+  pub protects : Marking q → (c : ℕ) → colour (s.cell c) ≡ Some Black → (i : ℕ) → at (slots (s.cell c)) i ≢ 0 →
       Protected s.cell (at (slots (s.cell c)) i)
   pub protected : Marking q → (j : ℕ) → (owing_if t (s.job j)).owes ≡ false → (h : ℕ) → at (s.job j).hands h ≢ 0 →
       Protected s.cell (at (s.job j).hands h)
@@ -61,8 +60,8 @@ record PhaseMove (s : State) (t : Bool) (q : Phase) (cur : ℕ) : Type 0 where
   pub flags : (j : ℕ) → is_open (s.job j).status ≡ true → Flags q (s.job j).armed (owing_if t (s.job j)).owes
 
 -- what was spared stays spared
-even : (s : State) (q : Phase) (cur : ℕ) → ((d : ℕ) → colour (s.cell d) ≡ some White → Spared q cur d →
-    Spared s.phase s.cursor d) → ((d : ℕ) → colour (s.cell d) ≡ some White → Spared s.phase s.cursor d →
+even : (s : State) (q : Phase) (cur : ℕ) → ((d : ℕ) → colour (s.cell d) ≡ Some White → Spared q cur d →
+    Spared s.phase s.cursor d) → ((d : ℕ) → colour (s.cell d) ≡ Some White → Spared s.phase s.cursor d →
     Spared q cur d) → KeptMove s q cur
 even s q cur unspare spare = record {
   unspare = unspare;
@@ -155,7 +154,7 @@ module _ (s : State) (b : Book) (place : ℕ → ℕ) (inv : Inv s b place) wher
   move p e t q cur r m = phase_keeps (from p) b place t q cur r (sound_from p e) m
 
   -- cell 0 has no colour
-  zero_not : (d : ℕ) (c : Colour) → d < 1 → colour (s.cell d) ≢ some c
+  zero_not : (d : ℕ) (c : Colour) → d < 1 → colour (s.cell d) ≢ Some c
   zero_not d c h z = let w : d ≡ 0 = omega arith in some_none c (sym z ∙ ap (λ (m : ℕ). colour (s.cell m)) w
       ∙ inv.heap.no_zero)
 
@@ -193,7 +192,7 @@ module _ (s : State) (b : Book) (place : ℕ → ℕ) (inv : Inv s b place) wher
   })
 
   -- a trace step goes on to the next cell
-  pub trace_next : s.phase ≡ Tracing → (r : ℕ) → colour (s.cell s.cursor) ≢ some Grey →
+  pub trace_next : s.phase ≡ Tracing → (r : ℕ) → colour (s.cell s.cursor) ≢ Some Grey →
       Inv (at_phase s Tracing (suc s.cursor) r) b place
   trace_next e r not_grey = move Tracing e false Tracing (suc s.cursor) r (record {
     kept = even (from Tracing) Tracing (suc s.cursor) (λ d a z. tt) (λ d a z. tt);
@@ -236,17 +235,17 @@ module _ (s : State) (b : Book) (place : ℕ → ℕ) (inv : Inv s b place) wher
   })
 
   -- the commit: nothing is grey, so what is protected is black
-  protected_black : ((d : ℕ) → colour (s.cell d) ≢ some Grey) → {c : ℕ} → Protected s.cell c → colour (s.cell c) ≡ some Black
+  protected_black : ((d : ℕ) → colour (s.cell d) ≢ Some Grey) → {c : ℕ} → Protected s.cell c → colour (s.cell c) ≡ Some Black
   protected_black no_grey (marked {c = c} l) = go (colour (s.cell c)) refl l
     where
-      go : (l : Option Colour) → colour (s.cell c) ≡ l → Marked l → l ≡ some Black
-      go none e h = absurd h
-      go (some White) e h = absurd h
-      go (some Grey) e h = absurd (no_grey c e)
-      go (some Black) e h = refl
+      go : (l : Option Colour) → colour (s.cell c) ≡ l → Marked l → l ≡ Some Black
+      go None e h = absurd h
+      go (Some White) e h = absurd h
+      go (Some Grey) e h = absurd (no_grey c e)
+      go (Some Black) e h = refl
   protected_black no_grey (via i g n e z) = absurd (n (protected_black no_grey g))
 
-  pub commit_keeps : s.phase ≡ Tracing → (r : ℕ) → ((d : ℕ) → colour (s.cell d) ≢ some Grey) →
+  pub commit_keeps : s.phase ≡ Tracing → (r : ℕ) → ((d : ℕ) → colour (s.cell d) ≢ Some Grey) →
       Inv (at_phase s Cleaning 1 r) b place
   commit_keeps e r no_grey = move Tracing e false Cleaning 1 r (record {
     kept = record {
@@ -267,18 +266,18 @@ module _ (s : State) (b : Book) (place : ℕ → ℕ) (inv : Inv s b place) wher
     flags = λ j o. tt;
   })
     where
-      black_kept : (c : ℕ) → colour (s.cell c) ≡ some Black → Kept Cleaning 1 c (s.cell c)
+      black_kept : (c : ℕ) → colour (s.cell c) ≡ Some Black → Kept Cleaning 1 c (s.cell c)
       black_kept c d = record { in_use = λ z. clash cc; spared = λ z. clash cc }
 
       is_black : (c : ℕ) (l : Option Colour) → colour (s.cell c) ≡ l → Kept Cleaning 1 c (s.cell c) →
-          colour (s.cell c) ≡ some Black
-      is_black c none q k = absurd (k.in_use q)
-      is_black c (some White) q k = absurd (k.spared q)
-      is_black c (some Grey) q k = absurd (no_grey c q)
-      is_black c (some Black) q k = q
+          colour (s.cell c) ≡ Some Black
+      is_black c None q k = absurd (k.in_use q)
+      is_black c (Some White) q k = absurd (k.spared q)
+      is_black c (Some Grey) q k = absurd (no_grey c q)
+      is_black c (Some Black) q k = q
 
   pub clean_next : s.phase ≡ Cleaning → (r : ℕ) →
-      ((s.card s.cursor).record_at ≢ 0 → colour (s.cell (s.card s.cursor).record_at) ≢ some White) →
+      ((s.card s.cursor).record_at ≢ 0 → colour (s.cell (s.card s.cursor).record_at) ≢ Some White) →
       Inv (at_phase s Cleaning (suc s.cursor) r) b place
   clean_next e r is_clean = move Cleaning e false Cleaning (suc s.cursor) r (record {
     kept = even (from Cleaning) Cleaning (suc s.cursor) (λ d a z. z) (λ d a z. z);
@@ -286,7 +285,7 @@ module _ (s : State) (b : Book) (place : ℕ → ℕ) (inv : Inv s b place) wher
       unlive = λ k l. l;
       clears = λ q k lo hi. elim (cases_eq s.cursor k) [
         | inl w ↦ subst (λ (m : ℕ). (s.card m).record_at ≢ 0 →
-            colour (s.cell (s.card m).record_at) ≢ some White) w is_clean
+            colour (s.cell (s.card m).record_at) ≢ Some White) w is_clean
         | inr w ↦ (sound_from Cleaning e).cards.cleared refl k
             lo (omega arith)
       ];

@@ -1,6 +1,5 @@
 -- The promise is kept.
-use Rattle.std.proofs.Common.{◌≡◌, ℕ, Bool, T, ◌≢◌, List, Err, sym, ap, ◌∙◌, subst, inl, inr, arith}
-use mathlib.Core.Option.{some}
+use Rattle.std.proofs.Common.{◌≡◌, ℕ, Bool, T, ◌≢◌, List, Err, sym, ap, ◌∙◌, subst, inl, inr, arith, Some}
 use Rattle.std.proofs.lemmas.Bool.{cases_Bool}
 use Rattle.refusal.specs.declared.Refusal.{Refusal}
 use Rattle.model.specs.Book.{Book, Reached, bearer}
@@ -72,7 +71,7 @@ promise {x} run = record {
     place : ℕ → ℕ
     place = x.place
 
-    is_bearer : (r : ℕ) (t : List ℕ) → Reached b r → b.name r ≡ some t → bearer b t ≡ r
+    is_bearer : (r : ℕ) (t : List ℕ) → Reached b r → b.name r ≡ Some t → bearer b t ≡ r
     is_bearer r t h e = (files s b place inv r t (reached_stands s b place inv h) e).1
 
 pub theorem : Theorem

@@ -1,6 +1,5 @@
 -- Writing a slot of a record keeps the invariant, where the barrier has run.
-use Rattle.std.proofs.Common.{◌≡◌, ℕ, ◌<◌, ◌≤◌, ◌≢◌, ◌⊎◌, List, length, sym, refl, ap, ◌∙◌, subst, inl, inr}
-use mathlib.Core.Option.{Option, none, some}
+use Rattle.std.proofs.Common.{◌≡◌, ℕ, ◌<◌, ◌≤◌, ◌≢◌, ◌⊎◌, List, length, sym, refl, ap, ◌∙◌, subst, inl, inr, Option, Some, None}
 use Rattle.std.proofs.lemmas.Bool.{cases_eq}
 use Rattle.model.specs.declared.Colour.{Colour}
 use Rattle.model.specs.declared.Colour.TheVariants.{Black}
@@ -22,7 +21,7 @@ slot_card : (i v : ℕ) (x : Cell) → card_of (with_slot i v x) ≡ card_of x
 slot_card i v free = refl
 slot_card i v (used c k l) = refl
 
-slot_slots : (i v : ℕ) (x : Cell) → colour x ≢ none → slots (with_slot i v x) ≡ put (slots x) i v
+slot_slots : (i v : ℕ) (x : Cell) → colour x ≢ None → slots (with_slot i v x) ≡ put (slots x) i v
 slot_slots i v free n = absurd (n refl)
 slot_slots i v (used c k l) n = refl
 
@@ -58,8 +57,8 @@ module _ (f : ℕ → Cell) (p : Phase) (cur c i v : ℕ) (kept : Kept p cur c (
   slot_protected t = protected_map f g (λ d l. subst Marked (sym (same_colour d)) l)
       (λ q m n z. go q m n z (cases_eq c q) (cases_eq i m))
     where
-      go : (q m : ℕ) → colour (f q) ≢ some Black → at (slots (f q)) m ≢ 0 → (c ≡ q) ⊎ (c ≡ q → ⊥) → (i ≡ m) ⊎ (i ≡ m → ⊥) →
-          Marked (colour (g (at (slots (f q)) m))) ⊎ ((colour (g q) ≢ some Black) × (at (slots (g q)) m ≡ at (slots (f q)) m))
+      go : (q m : ℕ) → colour (f q) ≢ Some Black → at (slots (f q)) m ≢ 0 → (c ≡ q) ⊎ (c ≡ q → ⊥) → (i ≡ m) ⊎ (i ≡ m → ⊥) →
+          Marked (colour (g (at (slots (f q)) m))) ⊎ ((colour (g q) ≢ Some Black) × (at (slots (g q)) m ≡ at (slots (f q)) m))
       go q m n z (inl a) (inl b) = inl (subst Marked (sym (same_colour _))
           (subst (λ (k : ℕ). Marked (colour (f (at (slots (f q)) k)))) b
           (subst (λ (k : ℕ). Marked (colour (f (at (slots (f k)) i)))) a
@@ -89,7 +88,7 @@ module _ (f : ℕ → Cell) (p : Phase) (cur c i v : ℕ) (kept : Kept p cur c (
           (λ h m. slot_elim (λ x. x ≢ 0 → Kept p cur x (g x)) m (λ e n. keep v (new_kept n))
           (λ e n. keep _ (ok.leads c kept m n)))
           (λ d e h m n. keep _ (ok.leads d h m n));
-      protects = λ t. upd_all (λ d y. colour y ≡ some Black → (m : ℕ) → at (slots y) m ≢ 0 → Protected g (at (slots y) m)) f c
+      protects = λ t. upd_all (λ d y. colour y ≡ Some Black → (m : ℕ) → at (slots y) m ≢ 0 → Protected g (at (slots y) m)) f c
           (with_slot i v (f c))
           (λ h m. slot_elim (λ x. x ≢ 0 → Protected g x) m (λ e n. slot_protected t (new_protected t n))
           (λ e n. slot_protected t (ok.protects t c (sym (slot_colour i v (f c)) ∙ h) m n)))

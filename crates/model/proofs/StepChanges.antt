@@ -1,6 +1,5 @@
 -- What a step may change of kept records, names and marks; and so what any call may change.
-use Rattle.std.proofs.Common.{◌≡◌, ℕ, zero, suc, ◌<◌, ◌≤◌, cond, ltb, ◌≢◌, ◌⊎◌, sym, refl, ap, ◌∙◌, subst, inl, inr, arith, ltb-false, ltb-true}
-use mathlib.Core.Option.{none, some}
+use Rattle.std.proofs.Common.{◌≡◌, ℕ, zero, suc, ◌<◌, ◌≤◌, cond, ltb, ◌≢◌, ◌⊎◌, sym, refl, ap, ◌∙◌, subst, inl, inr, arith, ltb-false, ltb-true, Some, None}
 use Rattle.std.proofs.lemmas.Bool.{cond_both}
 use Rattle.model.specs.declared.Colour.TheVariants.{Black, Grey, White}
 use Rattle.model.specs.declared.Phase.{Phase}
@@ -29,10 +28,10 @@ module _ (s : State) (b : Book) (place : ℕ → ℕ) (inv : Inv s b place) wher
 
   -- a step that leaves cells and cards
   moves_on : (s' : State) → ((d : ℕ) → s'.cell d ≡ s.cell d) → ((k : ℕ) → s'.card k ≡ s.card k) →
-      ((d : ℕ) → colour (s.cell d) ≡ some White → Spared s'.phase s'.cursor d → Spared s.phase s.cursor d) →
+      ((d : ℕ) → colour (s.cell d) ≡ Some White → Spared s'.phase s'.cursor d → Spared s.phase s.cursor d) →
       (s'.phase ≢ Cleaning) ⊎ ((s.phase ≡ Tracing) × (s'.phase ≡ Cleaning)) → Stepped s'
   moves_on s' cells cards unspare leads_to = record {
-    back = λ d. subst (λ (x : Cell). Kept s'.phase s'.cursor d x → Keeps s d ⊎ (colour (s.cell d) ≡ none)) (sym (cells d))
+    back = λ d. subst (λ (x : Cell). Kept s'.phase s'.cursor d x → Keeps s d ⊎ (colour (s.cell d) ≡ None)) (sym (cells d))
         (λ k. inl (record { in_use = k.in_use; spared = λ z. unspare d z (k.spared z) }));
     names = go leads_to;
     marks = λ d l. inl (subst (λ (x : Cell). Marked (colour x)) (cells d) l);
@@ -54,7 +53,7 @@ module _ (s : State) (b : Book) (place : ℕ → ℕ) (inv : Inv s b place) wher
       go (suc k) = nod_change s b place inv step (suc k)
 
   -- a trace step at a grey cell
-  grey_step_change : colour (s.cell s.cursor) ≡ some Grey → ((d : ℕ) → Spared s.phase s.cursor d) →
+  grey_step_change : colour (s.cell s.cursor) ≡ Some Grey → ((d : ℕ) → Spared s.phase s.cursor d) →
       (q : Phase) (cur r : ℕ) → q ≢ Cleaning → Stepped (at_phase (scanned s) q cur r)
   unfolding scanned
   grey_step_change a spare q cur r other = record {
@@ -72,11 +71,11 @@ module _ (s : State) (b : Book) (place : ℕ → ℕ) (inv : Inv s b place) wher
       g : ℕ → Cell
       g = grey_all s.cell (slots (s.cell s.cursor))
 
-      used_g : colour (g s.cursor) ≢ none
+      used_g : colour (g s.cursor) ≢ None
       used_g = used_greyer (grey_list s.cell (slots (s.cell s.cursor)) s.cursor) (λ z. clash cc)
 
-      from : (d : ℕ) → colour (upd g s.cursor (painted Black (g s.cursor)) d) ≢ none → colour (g d) ≢ none
-      from d = upd_elim (λ y. colour y ≢ none → colour (g d) ≢ none) g s.cursor d (painted Black (g s.cursor))
+      from : (d : ℕ) → colour (upd g s.cursor (painted Black (g s.cursor)) d) ≢ None → colour (g d) ≢ None
+      from d = upd_elim (λ y. colour y ≢ None → colour (g d) ≢ None) g s.cursor d (painted Black (g s.cursor))
           (λ e h z. used_g (ap (λ (m : ℕ). colour (g m)) e ∙ z)) (λ e h. h)
 
       go : (d : ℕ) → Marked (colour (s.cell d)) ⊎ ((i : ℕ) × (at (slots (s.cell s.cursor)) i ≡ d)) →

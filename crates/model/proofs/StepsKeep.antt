@@ -1,6 +1,5 @@
 -- Every step that is granted keeps the invariant.
-use Rattle.std.proofs.Common.{◌≡◌, ℕ, zero, suc, ◌<◌, ◌≤◌, Bool, true, false, cond, not, ◌&&◌, T, eqb, ltb, ◌≢◌, ◌⊎◌, [], ◌∷◌, sym, refl, ap, ◌∙◌, subst, inl, inr, arith, ltb-false, ltb-true, eq-eqb, eqb-true}
-use mathlib.Core.Option.{some}
+use Rattle.std.proofs.Common.{◌≡◌, ℕ, zero, suc, ◌<◌, ◌≤◌, Bool, true, false, cond, not, ◌&&◌, T, eqb, ltb, ◌≢◌, ◌⊎◌, [], ◌∷◌, sym, refl, ap, ◌∙◌, subst, inl, inr, arith, ltb-false, ltb-true, eq-eqb, eqb-true, Some}
 use Rattle.std.proofs.lemmas.Bool.{and_parts, cases_eq, cond_both}
 use Rattle.model.specs.declared.Colour.TheVariants.{Grey, White}
 use Rattle.model.specs.declared.Phase.{Phase}
@@ -74,19 +73,19 @@ module _ (s : State) (b : Book) (place : ℕ → ℕ) (inv : Inv s b place) wher
       (λ q. repeat_end (λ y. Inv y b place) x e (round_next x b place h e (suc x.rounds)))
 
   -- after a visit in TRACING of a cell that is not grey
-  tracing_on : s.phase ≡ Tracing → colour (s.cell s.cursor) ≢ some Grey → Inv (trace_on s) b place
+  tracing_on : s.phase ≡ Tracing → colour (s.cell s.cursor) ≢ Some Grey → Inv (trace_on s) b place
   tracing_on e n = trace_on_cases (λ y. Inv y b place) s
       (λ q. onward_keeps s Tracing e (trace_next s b place inv e s.rounds n))
       (λ q. commit_end (λ y. Inv y b place) s e
       (commit_keeps s b place inv e s.rounds (λ d z. no_grey d z q (cases_eq d s.cursor))))
     where
-      no_grey : (d : ℕ) → colour (s.cell d) ≡ some Grey → s.size ≤ s.cursor → (d ≡ s.cursor) ⊎ (d ≡ s.cursor → ⊥) → ⊥
+      no_grey : (d : ℕ) → colour (s.cell d) ≡ Some Grey → s.size ≤ s.cursor → (d ≡ s.cursor) ⊎ (d ≡ s.cursor → ⊥) → ⊥
       no_grey d z big (inl q) = n (ap (λ (m : ℕ). colour (s.cell m)) (sym q) ∙ z)
       no_grey d z big (inr q) = let h = inv.heap.inside d (λ w. clash cc) in (sound_from s b place inv Tracing e).heap.colours d
           (omega arith) z
 
   trace_step_keeps : Repeats s.phase Repeat → ((d : ℕ) → Spared s.phase s.cursor d) →
-      (colour (s.cell s.cursor) ≢ some Grey → Inv (trace_on s) b place) → Inv (trace_on (traced s)) b place
+      (colour (s.cell s.cursor) ≢ Some Grey → Inv (trace_on s) b place) → Inv (trace_on (traced s)) b place
   trace_step_keeps rep spare other = cond_both (is_grey (s.cell s.cursor)) (scanned s) s (λ x. Inv (trace_on x) b place)
       (λ e. repeat_on (scanned s) (scan_keeps s b place inv rep spare (grey_is _ e)) (phase_scanned s))
       (λ e. other (grey_not _ e))
@@ -99,7 +98,7 @@ module _ (s : State) (b : Book) (place : ℕ → ℕ) (inv : Inv s b place) wher
       (λ q. go s inv e (λ n. white_not _ q))
     where
       go : (x : State) → Inv x b place → x.phase ≡ Cleaning →
-          ((x.card x.cursor).record_at ≢ 0 → colour (x.cell (x.card x.cursor).record_at) ≢ some White) →
+          ((x.card x.cursor).record_at ≢ 0 → colour (x.cell (x.card x.cursor).record_at) ≢ Some White) →
           Inv (clean_on x) b place
       go x h e is_clean = cond_both (ltb x.cursor 512) (onward x) (at_phase (all_owe x) Parting 0 x.rounds)
           (λ y. Inv y b place)

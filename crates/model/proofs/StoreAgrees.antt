@@ -1,6 +1,5 @@
 -- What follows from the invariant at one moment: reached records stand, store and book agree, a name has one record.
-use Rattle.std.proofs.Common.{◌≡◌, ℕ, ◌≢◌, List, sym, ap, ◌∙◌, subst}
-use mathlib.Core.Option.{Option, some}
+use Rattle.std.proofs.Common.{◌≡◌, ℕ, ◌≢◌, List, sym, ap, ◌∙◌, subst, Option, Some}
 use Rattle.model.specs.declared.Phase.{Phase}
 use Rattle.model.specs.Book.{Book, Leads, Reached, bearer, from_hand, here, through}
 use Rattle.model.specs.Machine.{State, at, card_of, colour, filed, slots}
@@ -49,7 +48,7 @@ module _ (s : State) (b : Book) (place : ℕ → ℕ) (inv : Inv s b place) wher
       rec : {r : ℕ} → Reached b r → RecOk s.card place (b.width r) (b.slot r) (b.name r) (s.cell (place r))
       rec {r} h = inv.recs.recs r (reached_stands h).placed (reached_stands h).kept
 
-  pub carded : (r : ℕ) (t : List ℕ) → Stands s place r → b.name r ≡ some t → Carded s place r t (card_of (s.cell (place r)))
+  pub carded : (r : ℕ) (t : List ℕ) → Stands s place r → b.name r ≡ Some t → Carded s place r t (card_of (s.cell (place r)))
   carded r t h e = record {
     live = record {
       filled = λ z. h.placed (sym back ∙ z);
@@ -68,7 +67,7 @@ module _ (s : State) (b : Book) (place : ℕ → ℕ) (inv : Inv s b place) wher
       back = inv.cards.back (place r) h.kept named.0
 
   -- the name of a standing record is on file, and stands for that record
-  pub files : (r : ℕ) (t : List ℕ) → Stands s place r → b.name r ≡ some t → (filed s t ≢ 0) × (bearer b t ≡ r)
+  pub files : (r : ℕ) (t : List ℕ) → Stands s place r → b.name r ≡ Some t → (filed s t ≢ 0) × (bearer b t ≡ r)
   files r t h e = (
     on_file s b place inv t _ cd.live cd.spell,
     sym

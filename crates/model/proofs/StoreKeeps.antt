@@ -1,6 +1,5 @@
 -- Store keeps the invariant: its barrier greys what it overwrites, and while jobs still owe nods what it writes.
-use Rattle.std.proofs.Common.{◌≡◌, ℕ, ◌≤◌, Bool, true, false, ◌&&◌, ◌≢◌, ◌⊎◌, List, length, sym, refl, ap, ◌∙◌, subst, inl, inr}
-use mathlib.Core.Option.{some}
+use Rattle.std.proofs.Common.{◌≡◌, ℕ, ◌≤◌, Bool, true, false, ◌&&◌, ◌≢◌, ◌⊎◌, List, length, sym, refl, ap, ◌∙◌, subst, inl, inr, Some}
 use borrow.Author.Tests.{both_ways}
 use Rattle.std.proofs.lemmas.Bool.{and_from, and_parts}
 use Rattle.model.specs.declared.Colour.TheVariants.{White}
@@ -72,7 +71,7 @@ module _ (s : State) (b : Book) (place : ℕ → ℕ) (inv : Inv s b place) (j g
   kept_g : Kept s.phase s.cursor (hand s j g) (held s j g)
   kept_g = (inv.jobs j).roots g nz
 
-  old_greying : (s.job j).armed ≡ true → colour (s.cell overwritten) ≡ some White → Greying s.phase
+  old_greying : (s.job j).armed ≡ true → colour (s.cell overwritten) ≡ Some White → Greying s.phase
   old_greying a q = armed_greying s.phase s.cursor overwritten (s.job j).armed (s.job j).owes a flags
       ((inv.heap.leads (hand s j g) kept_g i (λ w. free_white (ap (λ (m : ℕ). colour (s.cell m)) w ∙ inv.heap.no_zero)
       q)).spared q)
@@ -80,7 +79,7 @@ module _ (s : State) (b : Book) (place : ℕ → ℕ) (inv : Inv s b place) (j g
   pub greys1 : Greys s.cell first_greyed.cell s.phase first_greyed.phase s.cursor
   greys1 = greys_if (s.job j).armed s.cell s.phase s.cursor overwritten old_greying
 
-  new_greying2 : greys_new ≡ true → colour (first_greyed.cell (hand s j h)) ≡ some White → Greying first_greyed.phase
+  new_greying2 : greys_new ≡ true → colour (first_greyed.cell (hand s j h)) ≡ Some White → Greying first_greyed.phase
   new_greying2 a q = repeats_greying greys1.repeats
       (new_greying s.phase (and_parts (s.job j).armed (store_greys_new s.phase) a).1)
 

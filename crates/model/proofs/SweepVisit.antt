@@ -1,6 +1,5 @@
 -- The sweep's visit of a cell keeps the invariant.
-use Rattle.std.proofs.Common.{◌≡◌, ℕ, suc, ◌<◌, ◌≢◌, ◌⊎◌, sym, refl, ap, ◌∙◌, subst, inl, inr, arith}
-use mathlib.Core.Option.{none, some}
+use Rattle.std.proofs.Common.{◌≡◌, ℕ, suc, ◌<◌, ◌≢◌, ◌⊎◌, sym, refl, ap, ◌∙◌, subst, inl, inr, arith, Some, None}
 use mathlib.Core.Path.{fun_ext}
 use Rattle.std.proofs.lemmas.Bool.{cases_eq, cond_both}
 use Rattle.model.specs.declared.Colour.TheVariants.{Black, Grey, White}
@@ -15,7 +14,7 @@ use Rattle.model.proofs.Invariant.{Inv, Kept, Live, Marked, RecOk, StandsFor}
 use Rattle.model.proofs.TableLaws.{upd_all, upd_elim}
 
 -- a record whose cell is still used keeps its place
-standing_stays : (place : ℕ → ℕ) (s : State) (r : ℕ) → colour (s.cell (place r)) ≢ none → standing place s r ≡ place r
+standing_stays : (place : ℕ → ℕ) (s : State) (r : ℕ) → colour (s.cell (place r)) ≢ None → standing place s r ≡ place r
 standing_stays place s r n = cond_both (is_free (s.cell (place r))) 0 (place r) (λ y. y ≡ place r)
     (λ e. absurd (n (free_is _ e))) (λ e. refl)
 
@@ -24,17 +23,17 @@ standing_zero place s r z = cond_both (is_free (s.cell (place r))) 0 (place r) (
 
 -- a record that has a place had it before, and its cell is used
 pub standing_was : (place : ℕ → ℕ) (s : State) (r : ℕ) → standing place s r ≢ 0 →
-    (standing place s r ≡ place r) × (colour (s.cell (place r)) ≢ none)
+    (standing place s r ≡ place r) × (colour (s.cell (place r)) ≢ None)
 standing_was place s r = cond_both (is_free (s.cell (place r))) 0 (place r) (λ y. y ≢ 0 →
-    (y ≡ place r) × (colour (s.cell (place r)) ≢ none)) (λ e n. absurd (n refl)) (λ e n. (refl, free_not _ e))
+    (y ≡ place r) × (colour (s.cell (place r)) ≢ None)) (λ e n. absurd (n refl)) (λ e n. (refl, free_not _ e))
 
-standing_for : (place : ℕ → ℕ) (s : State) (r v : ℕ) → (v ≢ 0 → colour (s.cell v) ≢ none) → StandsFor place r v →
+standing_for : (place : ℕ → ℕ) (s : State) (r v : ℕ) → (v ≢ 0 → colour (s.cell v) ≢ None) → StandsFor place r v →
     StandsFor (standing place s) r v
 standing_for place s r v n h = record { is = go (cases_eq v 0); none_is = h.none_is }
   where
     go : (v ≡ 0) ⊎ (v ≡ 0 → ⊥) → v ≡ standing place s r
     go (inl z) = z ∙ sym (standing_zero place s r (sym h.is ∙ z))
-    go (inr z) = h.is ∙ sym (standing_stays place s r (subst (λ (m : ℕ). colour (s.cell m) ≢ none) h.is (n z)))
+    go (inr z) = h.is ∙ sym (standing_stays place s r (subst (λ (m : ℕ). colour (s.cell m) ≢ None) h.is (n z)))
 
 -- a step that frees nothing leaves every place
 pub standing_same : (s : State) (b : Book) (place : ℕ → ℕ) → Inv s b place → Inv s b (standing place s)
@@ -58,14 +57,14 @@ swept_keep cur (used White n l) k = let h = k.spared refl in absurd (omega arith
 swept_keep cur (used Grey n l) k = record { in_use = λ e. clash cc; spared = λ e. clash cc }
 swept_keep cur (used Black n l) k = record { in_use = λ e. clash cc; spared = λ e. omega arith }
 
-swept_colour : (cur : ℕ) (x : Cell) → colour x ≢ some Grey →
-    (colour (swept_cell x) ≢ some Grey) × (colour (swept_cell x) ≢ some Black)
+swept_colour : (cur : ℕ) (x : Cell) → colour x ≢ Some Grey →
+    (colour (swept_cell x) ≢ Some Grey) × (colour (swept_cell x) ≢ Some Black)
 swept_colour cur free n = ((λ e. clash cc), (λ e. clash cc))
 swept_colour cur (used White k l) n = ((λ e. clash cc), (λ e. clash cc))
 swept_colour cur (used Grey k l) n = absurd (n refl)
 swept_colour cur (used Black k l) n = ((λ e. clash cc), (λ e. clash cc))
 
-swept_used : (x : Cell) → colour (swept_cell x) ≢ none → colour x ≢ none
+swept_used : (x : Cell) → colour (swept_cell x) ≢ None → colour x ≢ None
 swept_used free n = n
 swept_used (used White k l) n = absurd (n refl)
 swept_used (used Grey k l) n = n
@@ -75,10 +74,10 @@ pub sweep_keeps : (s : State) (b : Book) (place : ℕ → ℕ) (r : ℕ) → Inv
     Inv (at_phase (swept s) Sweeping (suc s.cursor) r) b (standing place (swept s))
 sweep_keeps s b place r inv = record {
   heap = record {
-    no_zero = upd_elim (λ y. colour y ≡ none) f c 0 (swept_cell (f c))
+    no_zero = upd_elim (λ y. colour y ≡ None) f c 0 (swept_cell (f c))
         (λ e. vac0 (f c) (ap (λ (m : ℕ). colour (f m)) e ∙ inv.heap.no_zero)) (λ e. inv.heap.no_zero);
     inside = λ d n. inv.heap.inside d (from d n);
-    colours = upd_all (λ d y. (colour y ≢ some Grey) × (d < suc c → colour y ≢ some Black)) f c (swept_cell (f c))
+    colours = upd_all (λ d y. (colour y ≢ Some Grey) × (d < suc c → colour y ≢ Some Black)) f c (swept_cell (f c))
         (let h = swept_colour c (f c) (inv.heap.colours c).0 in (h.0, λ q. h.1))
         (λ d e. ((inv.heap.colours d).0, λ q. (inv.heap.colours d).1 (less d e q)));
     leads = leads_move sh keep inv.heap.leads;
@@ -94,14 +93,14 @@ sweep_keeps s b place r inv = record {
     unmade_slots = inv.recs.unmade_slots;
     one_place = λ t u e n. let a = standing_was place (swept s) t n in let d = standing_was place (swept s) u (λ z. n (e ∙ z)) in
         inv.recs.one_place t u (sym a.0 ∙ e ∙ d.0) (λ z. n (a.0 ∙ z));
-    stands = λ t n. let a = standing_was place (swept s) t n in subst (λ (m : ℕ). colour (g m) ≢ none) (sym a.0) a.1;
+    stands = λ t n. let a = standing_was place (swept s) t n in subst (λ (m : ℕ). colour (g m) ≢ None) (sym a.0) a.1;
     owner = λ d n. let o = inv.recs.owner d (from d n) in
-        (o.0, standing_stays place (swept s) o.0 (subst (λ (m : ℕ). colour (g m) ≢ none) (sym o.1) n) ∙ o.1);
+        (o.0, standing_stays place (swept s) o.0 (subst (λ (m : ℕ). colour (g m) ≢ None) (sym o.1) n) ∙ o.1);
     recs = λ t n. let a = standing_was place (swept s) t n in subst (λ (m : ℕ). Kept Sweeping (suc c) m (g m) →
         RecOk s.card (standing place (swept s)) (b.width t) (b.slot t) (b.name t) (g m)) (sym a.0)
         (λ k. again t (λ z. n (a.0 ∙ z)) k);
     newest = λ k l. standing_stays place (swept s) _
-        (subst (λ (m : ℕ). colour (g m) ≢ none) (sym (inv.recs.newest k (unlive k l)))
+        (subst (λ (m : ℕ). colour (g m) ≢ None) (sym (inv.recs.newest k (unlive k l)))
         (keep _ (inv.cards.live k (unlive k l)).0).in_use) ∙ inv.recs.newest k (unlive k l);
   };
   lasts = inv.lasts;
@@ -116,7 +115,7 @@ sweep_keeps s b place r inv = record {
     g : ℕ → Cell
     g = upd f c (swept_cell (f c))
 
-    vac0 : (x : Cell) → colour x ≡ none → colour (swept_cell x) ≡ none
+    vac0 : (x : Cell) → colour x ≡ None → colour (swept_cell x) ≡ None
     vac0 free e = refl
     vac0 (used White k l) e = refl
     vac0 (used Grey k l) e = e
@@ -125,8 +124,8 @@ sweep_keeps s b place r inv = record {
     less : (d : ℕ) → c ≢ d → d < suc c → d < c
     less d n h = omega arith
 
-    from : (d : ℕ) → colour (g d) ≢ none → colour (f d) ≢ none
-    from = upd_all (λ d y. colour y ≢ none → colour (f d) ≢ none) f c (swept_cell (f c)) (swept_used (f c)) (λ d e n. n)
+    from : (d : ℕ) → colour (g d) ≢ None → colour (f d) ≢ None
+    from = upd_all (λ d y. colour y ≢ None → colour (f d) ≢ None) f c (swept_cell (f c)) (swept_used (f c)) (λ d e n. n)
 
     keep : (d : ℕ) → Kept Sweeping c d (f d) → Kept Sweeping (suc c) d (g d)
     keep = upd_all (λ d y. Kept Sweeping c d (f d) → Kept Sweeping (suc c) d y) f c (swept_cell (f c)) (swept_keep c (f c))
@@ -171,5 +170,5 @@ sweep_marked f c = upd_all (λ d y. Marked (colour y) → Marked (colour (f d)))
     go (used Grey k l) h = tt
     go (used Black k l) h = tt
 
-pub sweep_used : (f : ℕ → Cell) (c d : ℕ) → colour (upd f c (swept_cell (f c)) d) ≢ none → colour (f d) ≢ none
-sweep_used f c = upd_all (λ d y. colour y ≢ none → colour (f d) ≢ none) f c (swept_cell (f c)) (swept_used (f c)) (λ d e n. n)
+pub sweep_used : (f : ℕ → Cell) (c d : ℕ) → colour (upd f c (swept_cell (f c)) d) ≢ None → colour (f d) ≢ None
+sweep_used f c = upd_all (λ d y. colour y ≢ None → colour (f d) ≢ None) f c (swept_cell (f c)) (swept_used (f c)) (λ d e n. n)

@@ -1,6 +1,5 @@
 -- A new record in a cell that was free keeps the invariant, unnamed or filed on a card.
-use Rattle.std.proofs.Common.{◌≡◌, ℕ, zero, suc, ◌<◌, ◌≤◌, true, false, ltb, ◌≢◌, ◌⊎◌, List, replicate, sym, refl, ap, ◌∙◌, subst, inl, inr, suc-ne-zero, arith, ltb-false, ltb-true}
-use mathlib.Core.Option.{Option, none, some}
+use Rattle.std.proofs.Common.{◌≡◌, ℕ, zero, suc, ◌<◌, ◌≤◌, true, false, ltb, ◌≢◌, ◌⊎◌, List, replicate, sym, refl, ap, ◌∙◌, subst, inl, inr, suc-ne-zero, arith, ltb-false, ltb-true, Option, Some, None}
 use lib.ListN.{length-replicate}
 use Rattle.std.proofs.lemmas.Bool.{cases_eq, cond_both}
 use Rattle.model.specs.declared.Colour.TheVariants.{Black, Grey, White}
@@ -15,7 +14,7 @@ use Rattle.model.proofs.Colours.{clash, free_slots, marked_used, some_none}
 use Rattle.model.proofs.Invariant.{CardsOk, ColourOk, HeapOk, JobOk, Kept, Live, Marked, Protected, RecOk, RecsOk, Spared, StandsFor}
 use Rattle.model.proofs.TableLaws.{at_zeros, upd_all, upd_elim, upd_other, upd_same}
 
-new_colour_ok : (p : Phase) (cur c : ℕ) → ColourOk p cur c (some (new_colour p cur c))
+new_colour_ok : (p : Phase) (cur c : ℕ) → ColourOk p cur c (Some (new_colour p cur c))
 new_colour_ok Normal cur c = ((λ e. clash cc), (λ e. clash cc))
 new_colour_ok Arming cur c = λ e. clash cc
 new_colour_ok Scanning cur c = tt
@@ -23,10 +22,10 @@ new_colour_ok Tracing cur c = λ h e. clash cc
 new_colour_ok Repeat cur c = tt
 new_colour_ok Cleaning cur c = λ e. clash cc
 new_colour_ok Parting cur c = λ e. clash cc
-new_colour_ok Sweeping cur c = cond_both (ltb c cur) White Black (λ y. (some y ≢ some Grey) × (c < cur → some y ≢ some Black))
+new_colour_ok Sweeping cur c = cond_both (ltb c cur) White Black (λ y. (Some y ≢ Some Grey) × (c < cur → Some y ≢ Some Black))
     (λ t. ((λ e. clash cc), (λ h e. clash cc))) (λ t. ((λ e. clash cc), (λ h. let q = ltb-false c cur t in absurd (omega arith))))
 
-new_spared : (p : Phase) (cur c : ℕ) → some (new_colour p cur c) ≡ some White → Spared p cur c
+new_spared : (p : Phase) (cur c : ℕ) → Some (new_colour p cur c) ≡ Some White → Spared p cur c
 new_spared Normal cur c e = tt
 new_spared Arming cur c e = tt
 new_spared Scanning cur c e = tt
@@ -34,11 +33,11 @@ new_spared Tracing cur c e = tt
 new_spared Repeat cur c e = tt
 new_spared Cleaning cur c e = clash cc
 new_spared Parting cur c e = clash cc
-new_spared Sweeping cur c e = cond_both (ltb c cur) White Black (λ y. some y ≡ some White → c < cur) (λ t q. ltb-true c cur t)
+new_spared Sweeping cur c e = cond_both (ltb c cur) White Black (λ y. Some y ≡ Some White → c < cur) (λ t q. ltb-true c cur t)
     (λ t q. clash cc) e
 
-new_cleaning : (p : Phase) (cur c : ℕ) → p ≡ Cleaning → some (new_colour p cur c) ≢ some White
-new_cleaning p cur c e = subst (λ (q : Phase). some (new_colour q cur c) ≢ some White) (sym e) (λ z. clash cc)
+new_cleaning : (p : Phase) (cur c : ℕ) → p ≡ Cleaning → Some (new_colour p cur c) ≢ Some White
+new_cleaning p cur c e = subst (λ (q : Phase). Some (new_colour q cur c) ≢ Some White) (sym e) (λ z. clash cc)
 
 -- the latest record of a spelling
 pub latest_most : (f : ℕ → Option (List ℕ)) (n : ℕ) (sp : List ℕ) → latest f n sp ≤ n
@@ -63,11 +62,11 @@ pub latest_old : (f : ℕ → Option (List ℕ)) (n : ℕ) (v : Option (List ℕ
 unfolding latest
 latest_old f n v sp h = rw (upd_same f (suc n) v, h) (latest_below f (suc n) n v sp (omega arith))
 
-module _ (f : ℕ → Cell) (p : Phase) (cur pick k w : ℕ) (vac : colour (f pick) ≡ none) where
-  not_pick : (d : ℕ) → colour (f d) ≢ none → pick ≢ d
-  not_pick d n e = n (subst (λ (m : ℕ). colour (f m) ≡ none) e vac)
+module _ (f : ℕ → Cell) (p : Phase) (cur pick k w : ℕ) (vac : colour (f pick) ≡ None) where
+  not_pick : (d : ℕ) → colour (f d) ≢ None → pick ≢ d
+  not_pick d n e = n (subst (λ (m : ℕ). colour (f m) ≡ None) e vac)
 
-  take_old : (x : Cell) (d : ℕ) → colour (f d) ≢ none → upd f pick x d ≡ f d
+  take_old : (x : Cell) (d : ℕ) → colour (f d) ≢ None → upd f pick x d ≡ f d
   take_old x d n = upd_other f pick d x (not_pick d n)
 
   take_keep : (x : Cell) (d : ℕ) → Kept p cur d (f d) → Kept p cur d (upd f pick x d)
@@ -76,8 +75,8 @@ module _ (f : ℕ → Cell) (p : Phase) (cur pick k w : ℕ) (vac : colour (f pi
   take_protected : (x : Cell) {d : ℕ} → Protected f d → Protected (upd f pick x) d
   take_protected x = protected_map f (upd f pick x)
       (λ d l. subst (λ (y : Cell). Marked (colour y)) (sym (take_old x d (marked_used (f d) l))) l)
-      (λ q i n z. inr (upd_elim (λ y. (colour y ≢ some Black) × (at (slots y) i ≡ at (slots (f q)) i)) f pick q x
-      (λ e. absurd (z (free_slots (f q) (subst (λ (m : ℕ). colour (f m) ≡ none) e vac) i))) (λ e. (n, refl))))
+      (λ q i n z. inr (upd_elim (λ y. (colour y ≢ Some Black) × (at (slots y) i ≡ at (slots (f q)) i)) f pick q x
+      (λ e. absurd (z (free_slots (f q) (subst (λ (m : ℕ). colour (f m) ≡ None) e vac) i))) (λ e. (n, refl))))
 
   abbrev X : Cell
   X = used (new_colour p cur pick) k (replicate w 0)
@@ -88,12 +87,12 @@ module _ (f : ℕ → Cell) (p : Phase) (cur pick k w : ℕ) (vac : colour (f pi
   pub take_heap : (size : ℕ) → 1 ≤ pick → pick ≤ size → HeapOk size f p cur → HeapOk size (upd f pick X) p cur
   take_heap size lo hi ok = record {
     no_zero = ap colour (upd_other f pick 0 X (λ e. omega arith)) ∙ ok.no_zero;
-    inside = upd_all (λ c y. colour y ≢ none → c ≤ size) f pick X (λ n. hi) (λ c e. ok.inside c);
+    inside = upd_all (λ c y. colour y ≢ None → c ≤ size) f pick X (λ n. hi) (λ c e. ok.inside c);
     colours = upd_all (λ c y. ColourOk p cur c (colour y)) f pick X (new_colour_ok p cur pick) (λ c e. ok.colours c);
     leads = upd_all (λ c y. Kept p cur c y → (i : ℕ) → at (slots y) i ≢ 0 →
         Kept p cur (at (slots y) i) (upd f pick X (at (slots y) i))) f pick X
         (λ h i n. absurd (n (at_zeros w i))) (λ c e h i n. take_keep X _ (ok.leads c h i n));
-    protects = λ t. upd_all (λ c y. colour y ≡ some Black → (i : ℕ) → at (slots y) i ≢ 0 →
+    protects = λ t. upd_all (λ c y. colour y ≡ Some Black → (i : ℕ) → at (slots y) i ≢ 0 →
         Protected (upd f pick X) (at (slots y) i)) f pick X
         (λ h i n. absurd (n (at_zeros w i))) (λ c e h i n. take_protected X (ok.protects t c h i n));
   }
@@ -108,8 +107,8 @@ module _ (f : ℕ → Cell) (p : Phase) (cur pick k w : ℕ) (vac : colour (f pi
   }
 
   take_clear : (card : ℕ → Card) → CardsOk f p cur card → p ≡ Cleaning → (m : ℕ) → 1 ≤ m → m < cur → (card m).record_at ≢ 0 →
-      colour (upd f pick X (card m).record_at) ≢ some White
-  take_clear card ok e m lo hi n = upd_elim (λ y. colour y ≢ some White) f pick (card m).record_at X
+      colour (upd f pick X (card m).record_at) ≢ Some White
+  take_clear card ok e m lo hi n = upd_elim (λ y. colour y ≢ Some White) f pick (card m).record_at X
       (λ q. new_cleaning p cur pick e) (λ q. ok.cleared e m lo hi n)
 
   take_live : (card : ℕ → Card) → CardsOk f p cur card → (m : ℕ) → Live (upd f pick X) p (card m) →
@@ -161,9 +160,9 @@ module _ (f : ℕ → Cell) (p : Phase) (cur pick k w : ℕ) (vac : colour (f pi
         (λ c e h n. ap (λ (y : Card). y.record_at) (upd_other card k (card_of (f c)) C (not_empty card size hp ok dead c h n))
         ∙ ok.back c h n);
     distinct = λ m n. go m n (cases_eq k m) (cases_eq k n);
-    cleared = λ e. upd_all (λ m y. 1 ≤ m → m < cur → y.record_at ≢ 0 → colour (upd f pick X y.record_at) ≢ some White) card k
+    cleared = λ e. upd_all (λ m y. 1 ≤ m → m < cur → y.record_at ≢ 0 → colour (upd f pick X y.record_at) ≢ Some White) card k
         C
-        (λ a b c. subst (λ (y : Cell). colour y ≢ some White) (sym (upd_same f pick X)) (new_cleaning p cur pick e))
+        (λ a b c. subst (λ (y : Cell). colour y ≢ Some White) (sym (upd_same f pick X)) (new_cleaning p cur pick e))
         (λ m n. take_clear card ok e m);
   }
     where
@@ -193,7 +192,7 @@ module _ (f : ℕ → Cell) (p : Phase) (cur pick k w : ℕ) (vac : colour (f pi
         ne : suc count ≢ r
         ne e = suc-ne-zero count (e ∙ h.none_is (h.is ∙ ok.unmade r (omega arith)))
 
-    pub take_recs : colour (f 0) ≡ none → 1 ≤ pick →
+    pub take_recs : colour (f 0) ≡ None → 1 ≤ pick →
         ((c : ℕ) → Kept p cur c (f c) → card_of (f c) ≢ 0 → card' (card_of (f c)) ≡ card (card_of (f c))) →
         Bears card' nm k →
         ((m : ℕ) → Live (upd f pick X) p (card' m) →
@@ -206,10 +205,10 @@ module _ (f : ℕ → Cell) (p : Phase) (cur pick k w : ℕ) (vac : colour (f pi
       unmade_slots = λ r i h. ap (λ (f : ℕ → ℕ). f i) (upd_other slot (suc count) r (λ i. 0) (λ e. omega arith))
           ∙ ok.unmade_slots r i (omega arith);
       one_place = λ r t. one r t (cases_eq (suc count) r) (cases_eq (suc count) t);
-      stands = upd_all (λ r y. y ≢ 0 → colour (upd f pick X y) ≢ none) place (suc count) pick
-          (λ n. subst (λ (y : Cell). colour y ≢ none) (sym (upd_same f pick X)) (some_none (new_colour p cur pick)))
-          (λ r e n. subst (λ (y : Cell). colour y ≢ none) (sym (take_old X _ (ok.stands r n))) (ok.stands r n));
-      owner = upd_all (λ c y. colour y ≢ none → (r : ℕ) × (upd place (suc count) pick r ≡ c)) f pick X
+      stands = upd_all (λ r y. y ≢ 0 → colour (upd f pick X y) ≢ None) place (suc count) pick
+          (λ n. subst (λ (y : Cell). colour y ≢ None) (sym (upd_same f pick X)) (some_none (new_colour p cur pick)))
+          (λ r e n. subst (λ (y : Cell). colour y ≢ None) (sym (take_old X _ (ok.stands r n))) (ok.stands r n));
+      owner = upd_all (λ c y. colour y ≢ None → (r : ℕ) × (upd place (suc count) pick r ≡ c)) f pick X
           (λ n. (suc count, upd_same place (suc count) pick))
           (λ c e n. let o = ok.owner c n in (
             o.0,
@@ -223,12 +222,12 @@ module _ (f : ℕ → Cell) (p : Phase) (cur pick k w : ℕ) (vac : colour (f pi
         one : (r t : ℕ) → (suc count ≡ r) ⊎ (suc count ≡ r → ⊥) → (suc count ≡ t) ⊎ (suc count ≡ t → ⊥) →
             upd place (suc count) pick r ≡ upd place (suc count) pick t → upd place (suc count) pick r ≢ 0 → r ≡ t
         one r t (inl a) (inl b) e n = sym a ∙ b
-        one r t (inl a) (inr b) e n = absurd (ok.stands t (λ z. omega (arith, q)) (subst (λ (m : ℕ). colour (f m) ≡ none) q vac))
+        one r t (inl a) (inr b) e n = absurd (ok.stands t (λ z. omega (arith, q)) (subst (λ (m : ℕ). colour (f m) ≡ None) q vac))
           where
             q : pick ≡ place t
             q = sym (upd_same place (suc count) pick) ∙ ap (upd place (suc count) pick) a ∙ e
                 ∙ upd_other place (suc count) t pick b
-        one r t (inr a) (inl b) e n = absurd (ok.stands r (λ z. omega (arith, q)) (subst (λ (m : ℕ). colour (f m) ≡ none) q vac))
+        one r t (inr a) (inl b) e n = absurd (ok.stands r (λ z. omega (arith, q)) (subst (λ (m : ℕ). colour (f m) ≡ None) q vac))
           where
             q : pick ≡ place r
             q = sym (upd_same place (suc count) pick) ∙ ap (upd place (suc count) pick) b ∙ sym e
@@ -236,7 +235,7 @@ module _ (f : ℕ → Cell) (p : Phase) (cur pick k w : ℕ) (vac : colour (f pi
         one r t (inr a) (inr b) e n = ok.one_place r t (sym (upd_other place (suc count) r pick a) ∙ e
             ∙ upd_other place (suc count) t pick b) (λ z. n (upd_other place (suc count) r pick a ∙ z))
 
-        new_owner : (c : ℕ) → pick ≢ c → colour (f c) ≢ none → (r : ℕ) → place r ≡ c → suc count ≡ r → ⊥
+        new_owner : (c : ℕ) → pick ≢ c → colour (f c) ≢ None → (r : ℕ) → place r ≡ c → suc count ≡ r → ⊥
         new_owner c e n r q z = n (ap (λ (m : ℕ). colour (f m)) (sym q ∙ ok.unmade r (omega arith)) ∙ nz)
 
         newest_rec : RecOk card' (upd place (suc count) pick) w (λ i. 0) nm X
@@ -251,8 +250,8 @@ module _ (f : ℕ → Cell) (p : Phase) (cur pick k w : ℕ) (vac : colour (f pi
 
         old_bears : (n : Option (List ℕ)) (c : ℕ) → Kept p cur c (f c) → Bears card n (card_of (f c)) →
             Bears card' n (card_of (f c))
-        old_bears none c h b = b
-        old_bears (some sp) c h b = (b.0, ap (λ (y : Card). y.spelling) (stay c h b.0) ∙ b.1)
+        old_bears None c h b = b
+        old_bears (Some sp) c h b = (b.0, ap (λ (y : Card). y.spelling) (stay c h b.0) ∙ b.1)
 
         old_rec : (r : ℕ) → RecOk card place (width r) (slot r) (name r) (f (place r)) → Kept p cur (place r) (f (place r)) →
             RecOk card' (upd place (suc count) pick) (width r) (slot r) (name r) (f (place r))

@@ -1,6 +1,5 @@
 -- What no hand reaches from begin to the commit is freed by the cycle's end.
-use Rattle.std.proofs.Common.{◌≡◌, ℕ, ◌<◌, ◌≤◌, ◌≢◌, ◌⊎◌, sym, refl, ap, ◌∙◌, subst, inl, inr, arith}
-use mathlib.Core.Option.{Option, none, some}
+use Rattle.std.proofs.Common.{◌≡◌, ℕ, ◌<◌, ◌≤◌, ◌≢◌, ◌⊎◌, sym, refl, ap, ◌∙◌, subst, inl, inr, arith, Option, Some, None}
 use Rattle.std.proofs.lemmas.Bool.{cases_eq, cases_lt}
 use Rattle.model.specs.declared.Colour.{Colour}
 use Rattle.model.specs.declared.Colour.TheVariants.{Black, Grey, White}
@@ -134,7 +133,7 @@ next_doomed x c pick right inv t dm = record {
 }
   where
     go : (next x c pick).place t ≢ 0 → Keeps x.state ((next x c pick).place t) ⊎
-        (colour (x.state.cell ((next x c pick).place t)) ≡ none) → ⊥
+        (colour (x.state.cell ((next x c pick).place t)) ≡ None) → ⊥
     go n (inl k) = let e = next_place x c pick right inv t dm.made n in dm.doom (λ z. n (e ∙ z))
         (subst (λ (v : ℕ). Keeps x.state v) e k)
     go n (inr k) = let e = next_place x c pick right inv t dm.made n in inv.recs.stands t (λ z. n (e ∙ z))
@@ -144,10 +143,10 @@ cleaning_marked : (x : Cell) (cur c : ℕ) → Kept Cleaning cur c x → Marked 
 cleaning_marked x cur c k = go (colour x) refl
   where
     go : (l : Option Colour) → colour x ≡ l → Marked l
-    go none e = absurd (k.in_use e)
-    go (some White) e = absurd (k.spared e)
-    go (some Grey) e = tt
-    go (some Black) e = tt
+    go None e = absurd (k.in_use e)
+    go (Some White) e = absurd (k.spared e)
+    go (Some Grey) e = tt
+    go (Some Black) e = tt
 
 commit_dooms : (x : World) (t : ℕ) → Untraced x t → x.state.phase ≡ Cleaning → Doomed x t
 commit_dooms x t un e = record {
@@ -195,11 +194,11 @@ begin_untraced x t pick right inv n e = record {
     white d = subst (λ (p : Phase). ColourOk p x.state.cursor d (colour (x.state.cell d)))
         (phase_is Normal _ (granted_next x begin pick e).0.0) (inv.heap.colours d)
 
-    none_marked : (l : Option Colour) → l ≢ some Grey → l ≢ some Black → Marked l → ⊥
-    none_marked none g b h = h
-    none_marked (some White) g b h = h
-    none_marked (some Grey) g b h = g refl
-    none_marked (some Black) g b h = b refl
+    none_marked : (l : Option Colour) → l ≢ Some Grey → l ≢ Some Black → Marked l → ⊥
+    none_marked None g b h = h
+    none_marked (Some White) g b h = h
+    none_marked (Some Grey) g b h = g refl
+    none_marked (Some Black) g b h = b refl
 
 pub frees : (x y z : World) → Run x → (r first last : ℕ) → x.place r ≢ 0 →
     Picks x.state first → Granted x begin first → Through (Unreached r) (next x begin first) y →

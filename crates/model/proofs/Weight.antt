@@ -1,7 +1,6 @@
 -- The weight of the heap: 2 for each white cell, 1 for each grey one. While tracing no call of a job makes it heavier, and
 -- one that turns TRACING into REPEAT makes it lighter.
-use Rattle.std.proofs.Common.{◌≡◌, ℕ, zero, suc, ◌+◌, ◌*◌, ◌<◌, ◌≤◌, Bool, true, false, ◌&&◌, T, ◌≢◌, ◌⊎◌, List, sym, refl, ap, ◌∙◌, subst, inl, inr, arith}
-use mathlib.Core.Option.{Option, none, some}
+use Rattle.std.proofs.Common.{◌≡◌, ℕ, zero, suc, ◌+◌, ◌*◌, ◌<◌, ◌≤◌, Bool, true, false, ◌&&◌, T, ◌≢◌, ◌⊎◌, List, sym, refl, ap, ◌∙◌, subst, inl, inr, arith, Option, Some, None}
 use Rattle.std.proofs.lemmas.Bool.{cases_eq, cond_both}
 use Rattle.model.specs.declared.Colour.{Colour}
 use Rattle.model.specs.declared.Colour.TheVariants.{Black, Grey, White}
@@ -23,10 +22,10 @@ use Rattle.model.proofs.SlotWriteKeeps.{slot_same_colour}
 use Rattle.model.proofs.TableLaws.{upd_elim, upd_same}
 
 abbrev pub weight : Option Colour → ℕ
-weight none = 0
-weight (some White) = 2
-weight (some Grey) = 1
-weight (some Black) = 0
+weight None = 0
+weight (Some White) = 2
+weight (Some Grey) = 1
+weight (Some Black) = 0
 
 -- the weight of cells 1 to n
 pub total : (ℕ → Cell) → ℕ → ℕ
@@ -34,10 +33,10 @@ total f zero = 0
 total f (suc n) = weight (colour (f (suc n))) + total f n
 
 weight_most : (l : Option Colour) → weight l ≤ 2
-weight_most none = omega arith
-weight_most (some White) = omega arith
-weight_most (some Grey) = omega arith
-weight_most (some Black) = omega arith
+weight_most None = omega arith
+weight_most (Some White) = omega arith
+weight_most (Some Grey) = omega arith
+weight_most (Some Black) = omega arith
 
 pub total_most : (f : ℕ → Cell) (n : ℕ) → total f n ≤ 2 * n
 unfolding total
@@ -142,8 +141,8 @@ steady_taken s pick k w = steady_cells s (taken s pick k w) refl refl refl refl
     (λ t d. upd_elim (λ y. weight (colour y) ≤ weight (colour (s.cell d))) s.cell pick d _
     (λ e. let q = new_black s.phase s.cursor pick t in omega arith) (λ e. omega arith))
   where
-    new_black : (p : Phase) (cur c : ℕ) → T (is_tracing p) → weight (some (new_colour p cur c)) ≤ 0
-    new_black p cur c = tracing_cases (λ q. weight (some (new_colour q cur c)) ≤ 0) (omega arith) (omega arith) p
+    new_black : (p : Phase) (cur c : ℕ) → T (is_tracing p) → weight (Some (new_colour p cur c)) ≤ 0
+    new_black p cur c = tracing_cases (λ q. weight (Some (new_colour q cur c)) ≤ 0) (omega arith) (omega arith) p
 
 pub steady_nod : (s : State) (j : ℕ) → Steady s (nodded s j)
 unfolding nodded
@@ -151,7 +150,7 @@ steady_nod s j = steady_cells s (nodded s j) refl refl refl refl
     (λ t d. greyer_weight _ _ ((nod_greys s.phase s.cell (s.job j).hands s.cursor).greyer d))
 
 -- greying one cell by a call
-steady_grey : (s : State) (t : Bool) (c : ℕ) → colour (s.cell 0) ≡ none → ((d : ℕ) → colour (s.cell d) ≢ none → d ≤ s.size) →
+steady_grey : (s : State) (t : Bool) (c : ℕ) → colour (s.cell 0) ≡ None → ((d : ℕ) → colour (s.cell d) ≢ None → d ≤ s.size) →
     Steady s (grey_if t s c)
 steady_grey s false c no_zero inside = steady_rows s s.job s.last_job
 steady_grey s true c no_zero inside = record {
@@ -166,7 +165,7 @@ steady_grey s true c no_zero inside = record {
       (λ z w. clash cc);
 }
   where
-    strict : colour (s.cell c) ≡ some White → total (upd s.cell c (greyed (s.cell c))) s.size < total s.cell s.size
+    strict : colour (s.cell c) ≡ Some White → total (upd s.cell c (greyed (s.cell c))) s.size < total s.cell s.size
     strict z = total_lt s.cell (upd s.cell c (greyed (s.cell c))) s.size c
         (λ d. greyer_weight (s.cell d) (upd s.cell c (greyed (s.cell c)) d) (grey_one s.cell c d)) (pos (cases_eq c 0))
         (inside c (λ w. clash cc)) less

@@ -1,7 +1,6 @@
 -- The book: what the jobs may rely on, told without cells, cards, colours or phases. It is fed each granted call, and
 -- whether settle found or made.
-use Rattle.std.specs.Prelude.{ℕ, zero, suc, Bool, true, false, cond, ◌≢◌, List, [], ◌∷◌}
-use Rattle.std.proofs.Math.Option.{Option, none, some}
+use Rattle.std.specs.Prelude.{ℕ, zero, suc, Bool, true, false, cond, ◌≢◌, List, [], ◌∷◌, Option, Some, None}
 use Rattle.model.specs.Machine.{upd, same_text}
 use Rattle.model.specs.Calls.{text, Action, close, park, wake, nod, make, settle, find, load, store, copy, drop_hand, same, follow, spelling_of}
 use Rattle.model.specs.Calls.{Call, by, open_job, begin, step, Answer, done, ticket, found, made, told, spelled, stepped}
@@ -17,7 +16,7 @@ pub record Book : Type 0 where
 
 -- the book of a new store
 abbrev pub new_book : Book
-new_book = record { holds = λ j h. 0; count = 0; width = λ r. 0; slot = λ r i. 0; name = λ r. none }
+new_book = record { holds = λ j h. 0; count = 0; width = λ r. 0; slot = λ r i. 0; name = λ r. None }
 
 -- the book with other hands
 abbrev pub with_holds : Book → (ℕ → ℕ → ℕ) → Book
@@ -37,8 +36,8 @@ write_slot b r i v = record { holds = b.holds; count = b.count; width = b.width;
 
 -- whether a record's name is a text
 abbrev pub is_named : Option (List ℕ) → List ℕ → Bool
-is_named none t = false
-is_named (some n) t = same_text n t
+is_named None t = false
+is_named (Some n) t = same_text n t
 
 -- the latest of the first n records that bears a name, or 0
 unfoldable pub latest : (ℕ → Option (List ℕ)) → ℕ → List ℕ → ℕ
@@ -67,7 +66,7 @@ is_found (stepped p n) = false
 -- settle, told whether it found
 abbrev pub write_settle : Bool → Book → ℕ → List ℕ → ℕ → ℕ → Book
 write_settle true b j t h w = hold b j h (bearer b t)
-write_settle false b j t h w = hold (new_record b w (some t)) j h (suc b.count)
+write_settle false b j t h w = hold (new_record b w (Some t)) j h (suc b.count)
 
 -- what a granted call of a job does to the book
 abbrev pub write_job : Book → ℕ → Action → Answer → Book
@@ -75,7 +74,7 @@ write_job b j close a = with_holds b (upd b.holds j (λ h. 0))
 write_job b j park a = b
 write_job b j wake a = b
 write_job b j nod a = b
-write_job b j (make h w) a = hold (new_record b w none) j h (suc b.count)
+write_job b j (make h w) a = hold (new_record b w None) j h (suc b.count)
 write_job b j (settle name h w) a = write_settle (is_found a) b j (text name) h w
 write_job b j (find name h) a = hold b j h (bearer b (text name))
 write_job b j (load g i h) a = hold b j h (b.slot (b.holds j g) i)

@@ -1,8 +1,7 @@
 -- The store as an abstract machine: what it holds, and how that is read and changed.
 -- Cells, cards and jobs are tables: functions from numbers, counted from 1. Slots and hands are lists, counted from 1.
 -- Where a number names a cell, a card or a job, 0 names none.
-use Rattle.std.specs.Prelude.{ℕ, zero, suc, ◌-◌, Bool, true, false, cond, not, ◌&&◌, ◌||◌, List, [], ◌∷◌, get_or, set, ◌==◌}
-use Rattle.std.proofs.Math.Option.{Option, none, some}
+use Rattle.std.specs.Prelude.{ℕ, zero, suc, ◌-◌, Bool, true, false, cond, not, ◌&&◌, ◌||◌, List, [], ◌∷◌, get_or, set, ◌==◌, Option, Some, None}
 use Rattle.model.specs.declared.Colour.{Colour}
 use Rattle.model.specs.declared.Colour.TheVariants.{White, Grey, Black}
 use Rattle.model.specs.declared.JobState.{JobState}
@@ -56,8 +55,8 @@ pub data Cell : Type 0 where
 
 -- a record's colour; a free cell has none
 abbrev pub colour : Cell → Option Colour
-colour free = none
-colour (used c k l) = some c
+colour free = None
+colour (used c k l) = Some c
 
 -- the card that names a record
 abbrev pub card_of : Cell → ℕ

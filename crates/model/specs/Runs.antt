@@ -1,6 +1,5 @@
 -- Runs: every list of calls on a store that began new, over every heap, with the book beside it.
-use Rattle.std.specs.Prelude.{◌≡◌, ℕ, suc, ◌≤◌, true, cond, T, ◌≢◌, List, Ok, Err, Result, nat_lt}
-use Rattle.std.proofs.Math.Option.{none}
+use Rattle.std.specs.Prelude.{◌≡◌, ℕ, suc, ◌≤◌, true, cond, T, ◌≢◌, List, Ok, Err, Result, nat_lt, None}
 use Rattle.refusal.specs.declared.Refusal.{Refusal}
 use Rattle.model.specs.declared.Phase.{Phase}
 use Rattle.model.specs.declared.Phase.TheVariants.{Tracing, Cleaning}
@@ -48,7 +47,7 @@ next x c pick = next_by x c pick (outcome x.state c pick)
 pub record FreeCell (s : State) (c : ℕ) : Type 0 where
   pub lowest : 1 ≤ c
   pub highest : c ≤ s.size
-  pub vacant : colour (s.cell c) ≡ none
+  pub vacant : colour (s.cell c) ≡ None
 
 -- the heap's pick is one of its free cells, if it has any: nothing else is known of it
 abbrev pub Picks : State → ℕ → Type 0
