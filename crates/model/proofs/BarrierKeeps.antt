@@ -4,14 +4,14 @@ use Rattle.std.proofs.lemmas.Bool.{cond_both}
 use Rattle.model.specs.declared.Colour.{Colour}
 use Rattle.model.specs.declared.Colour.TheVariants.{Grey, White}
 use Rattle.model.specs.declared.Phase.{Phase}
-use Rattle.model.specs.declared.Phase.TheVariants.{Repeat, Tracing}
+use Rattle.model.specs.declared.Phase.TheVariants.{Tracing}
 use Rattle.model.specs.Book.{Book}
 use Rattle.model.specs.Cycle.{grey_if, greyed, repeating}
-use Rattle.model.specs.Machine.{Cell, State, colour, in_phase, is_white, upd}
+use Rattle.model.specs.Machine.{Cell, State, colour, is_white, upd}
 use Rattle.model.proofs.Colours.{clash, grey_white, white_is, white_not}
 use Rattle.model.proofs.GreyingKeeps.{AllGreyer, Greys, Repeats, Turn, grey_one, greyed_grey, greyer_greyed, greyer_refl, greying_keeps, greys_refl, marked_one, stays, turns}
 use Rattle.model.proofs.Invariant.{ColourOk, Greying, Inv, Marked, Spared}
-use Rattle.model.proofs.PhaseCases.{greying_cases, phase_is}
+use Rattle.model.proofs.PhaseCases.{greying_cases}
 use Rattle.model.proofs.TableLaws.{upd_elim}
 
 greying_spared : (p : Phase) (cur d : ℕ) → Greying p → Spared p cur d
@@ -25,8 +25,8 @@ greying_colour p cur d l = greying_cases (λ q. ColourOk q cur d l → ColourOk 
     (λ h. tt) p
 
 pub repeats_repeating : (p : Phase) → Repeats p (repeating p)
-repeats_repeating p = cond_both (in_phase Tracing p) Repeat p (λ q. Repeats p q)
-    (λ e. subst (λ (r : Phase). Repeats r Repeat) (sym (phase_is Tracing p e)) turns) (λ e. stays)
+repeats_repeating Tracing = turns
+repeats_repeating _ = stays
 
 -- cells and phase after a call greyed cell c, if a test passed
 abbrev pub cells_if : Bool → (ℕ → Cell) → ℕ → ℕ → Cell

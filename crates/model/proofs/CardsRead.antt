@@ -1,14 +1,15 @@
 -- How cards read: a card that does not read as empty is live, and its spelling is on file.
-use Rattle.std.proofs.Common.{◌≡◌, ℕ, true, false, not, ◌&&◌, eqb, ◌≢◌, ◌⊎◌, List, ap, subst, inl, inr, arith, ne_eqb}
+use Rattle.std.proofs.Common.{◌≡◌, ℕ, true, false, not, ◌&&◌, eqb, ◌≢◌, ◌⊎◌, List, ap, inl, inr, arith, ne_eqb, bytes_eq}
+use Rattle.std.proofs.lemmas.Slice.Eq.{bytes_eq-Decides}
 use borrow.Author.Tests.{both_ways, eqb-false, not-true}
 use Rattle.std.proofs.lemmas.Bool.{and_from, and_parts, cases_Bool, not_from_false, or_from, or_parts}
 use Rattle.model.specs.declared.Phase.TheVariants.{Cleaning}
 use Rattle.model.specs.Book.{Book}
-use Rattle.model.specs.Machine.{State, bears, filed, in_phase, is_white, reads_empty, same_text}
+use Rattle.model.specs.Machine.{State, bears, filed, in_phase, is_white, reads_empty}
 use Rattle.model.proofs.Colours.{is_white_at, white_is}
 use Rattle.model.proofs.Invariant.{Inv, LiveCard}
 use Rattle.model.proofs.PhaseCases.{phase_is}
-use Rattle.model.proofs.TableLaws.{first_none, first_passes, same_text_eq, same_text_refl}
+use Rattle.model.proofs.TableLaws.{first_none, first_passes}
 
 bears_live : (s : State) (t : List ℕ) (k : ℕ) → bears s t k ≡ true → LiveCard s k × ((s.card k).spelling ≡ t)
 bears_live s t k e = (
@@ -16,11 +17,11 @@ bears_live s t k e = (
     filled = eqb-false _ 0 em.0;
     not_white = λ q z. both_ways _ em.1 (and_from _ _ (ap (in_phase Cleaning) q) (is_white_at _ z));
   },
-  same_text_eq _ _
+  (bytes_eq-Decides _ _).0
       pr.1,
 )
   where
-    pr : (not (reads_empty s k) ≡ true) × (same_text (s.card k).spelling t ≡ true)
+    pr : (not (reads_empty s k) ≡ true) × (bytes_eq (s.card k).spelling t ≡ true)
     pr = and_parts _ _ e
 
     em : (eqb (s.card k).record_at 0 ≡ false) ×
@@ -53,4 +54,4 @@ pub on_file : (s : State) (b : Book) (place : ℕ → ℕ) → Inv s b place →
 unfolding filed
 on_file s b place inv t k l e z = both_ways _ (first_none (bears s t) 1 512 (omega arith) z k (inv.cards.live k l).2
     (let h = (inv.cards.live k l).3 in omega arith))
-    (subst (λ (u : List ℕ). bears s u k ≡ true) e (and_from _ _ (not_from_false _ (live_reads s k l)) (same_text_refl _)))
+    (and_from _ _ (not_from_false _ (live_reads s k l)) ((bytes_eq-Decides _ _).1 e))

@@ -1,11 +1,11 @@
 -- The commit comes within N × (2N + 1) trace steps. While tracing, each round but the last makes the heap lighter by at
 -- least 1, and it weighs 2N at most.
-use Rattle.std.proofs.Common.{◌≡◌, ℕ, zero, suc, ◌+◌, ◌*◌, ◌<◌, ◌≤◌, cond, T, ltb, sym, refl, ap, subst, mul-le-mul_right, arith, Some}
+use Rattle.std.proofs.Common.{◌≡◌, ℕ, zero, suc, ◌+◌, ◌*◌, ◌<◌, ◌≤◌, cond, T, ltb, sym, refl, ap, subst, mul-le-mul_right, arith, Some, is_ok}
 use Rattle.std.proofs.lemmas.Bool.{cond_both}
 use Rattle.model.specs.declared.Colour.TheVariants.{Black, Grey}
 use Rattle.model.specs.declared.Phase.{Phase}
 use Rattle.model.specs.declared.Phase.TheVariants.{Arming, Cleaning, Normal, Parting, Repeat, Scanning, Sweeping, Tracing}
-use Rattle.model.specs.Calls.{Call, begin, by, is_granted, open_job, step}
+use Rattle.model.specs.Calls.{Call, begin, by, open_job, step}
 use Rattle.model.specs.Cycle.{all_owe, clean_on, cleared, grey_all, handshake, nod_or, nodded, onward, owing, scanned, step_from, swept, trace_on}
 use Rattle.model.specs.Machine.{Cell, State, at_phase, colour, is_grey, is_parked, is_tracing, is_white, painted, slots, upd}
 use Rattle.model.specs.Promise.{trace_limit}
@@ -171,7 +171,7 @@ unfolding next outcome trace_steps
 run_bounds (start n w small) = omega arith
 run_bounds (then {x = y} run c pick right) = decided
     (λ o. InBounds (next_by y c pick o).state
-    (cond (is_granted o) (count_call c y.state.phase (trace_steps run)) (trace_steps run))) (checks y.state c)
+    (cond (is_ok o) (count_call c y.state.phase (trace_steps run)) (trace_steps run))) (checks y.state c)
     (effect y.state c pick)
     (λ e. run_bounds run) (call_bounds y (trace_steps run) pick (run_sound run) (run_bounds run) c)
 

@@ -1,10 +1,10 @@
 -- A call is refused, and nothing changes, or all its conditions hold and it is granted: every argument about calls
 -- starts here.
-use Rattle.std.proofs.Common.{◌≡◌, ℕ, ◌≤◌, Bool, true, false, not, ◌||◌, eqb, leb, ◌≢◌, List, [], ◌∷◌, length, Ok, Err, Result, refl, leb-true}
+use Rattle.std.proofs.Common.{◌≡◌, ℕ, ◌≤◌, Bool, true, false, not, ◌||◌, eqb, leb, ◌≢◌, List, [], ◌∷◌, length, Ok, Err, Result, refl, leb-true, is_ok}
 use borrow.Author.Tests.{eqb-false, not-true}
 use Rattle.std.proofs.lemmas.Bool.{and_parts, cond_both}
 use Rattle.refusal.specs.declared.Refusal.{Refusal}
-use Rattle.model.specs.Calls.{Call, Check, Grant, decide, is_granted}
+use Rattle.model.specs.Calls.{Call, Check, Grant, decide}
 use Rattle.model.specs.Machine.{Cell, slots}
 use Rattle.model.specs.Runs.{Granted, World, granted, next, next_by}
 use Rattle.model.specs.Tables.{checks, effect, hand_ok, met, outcome, slot_ok}
@@ -31,7 +31,7 @@ next_cases x c pick P refused met = decided (λ o. P (next_by x c pick o)) (chec
 pub granted_next : (x : World) (c : Call) (pick : ℕ) → Granted x c pick →
     Passed (checks x.state c) × (next x c pick ≡ granted x c pick (effect x.state c pick))
 unfolding next outcome
-granted_next x c pick = decided (λ o. is_granted o ≡ true →
+granted_next x c pick = decided (λ o. is_ok o ≡ true →
     Passed (checks x.state c) × (next_by x c pick o ≡ granted x c pick (effect x.state c pick)))
     (checks x.state c) (effect x.state c pick) (λ e q. clash cc) (λ p q. (p, refl))
 

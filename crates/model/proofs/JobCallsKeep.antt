@@ -1,6 +1,7 @@
 -- Calls of a job that make no record and grey none keep the invariant: open, close, park, wake, nod, load, copy, drop
 -- and follow.
 use Rattle.std.proofs.Common.{◌≡◌, ℕ, suc, ◌≤◌, true, false, not, eqb, ◌≢◌, ◌⊎◌, List, [], ◌∷◌, Result, sym, refl, ◌∙◌, subst, inl, inr, Some}
+use Rattle.std.specs.Result.{result_unwrap_or}
 use borrow.Author.Tests.{eqb-false, not-true}
 use Rattle.std.proofs.lemmas.Bool.{cond_both}
 use Rattle.refusal.specs.declared.Refusal.{Refusal}
@@ -10,7 +11,7 @@ use Rattle.model.specs.declared.JobState.TheVariants.{Closed, Parked, Running}
 use Rattle.model.specs.Book.{Book, hold, led, with_holds}
 use Rattle.model.specs.Calls.{copy, drop_hand, follow, load}
 use Rattle.model.specs.Machine.{Job, State, at, closed_row, colour, empty_hands, hand, held, is_open, is_parked, set_hand, set_job, slots, upd, with_jobs}
-use Rattle.model.specs.Tables.{job_checks, opened_job, slot_ok, vacant_job, walk, walk_end, walks, with_status}
+use Rattle.model.specs.Tables.{job_checks, opened_job, slot_ok, vacant_job, walk, walks, with_status}
 use Rattle.model.proofs.Colours.{black_or, clash}
 use Rattle.model.proofs.Granted.{Passed, hand_range, not_zero}
 use Rattle.model.proofs.Invariant.{Inv, Keeps, Marking, Protected, StandsFor, via}
@@ -92,7 +93,7 @@ module _ (s : State) (b : Book) (place : ℕ → ℕ) (inv : Inv s b place) wher
   -- a walk that ends, ends at what may go into a hand
   walk_may : (row : Job) (path : List ℕ) (r c n : ℕ) → MayHold s.cell s.phase s.cursor row place r c →
       (walks (walk s.cell c n path)).holds ≡ true →
-      MayHold s.cell s.phase s.cursor row place (led b.slot r path) (walk_end (walk s.cell c n path))
+      MayHold s.cell s.phase s.cursor row place (led b.slot r path) (result_unwrap_or (walk s.cell c n path) 0)
   unfolding walk led
   walk_may row [] r c n m = λ e. m
   walk_may row (i ∷ is) r c n m = cond_both (eqb c 0) _ _ ends (λ z q. clash cc)
@@ -102,9 +103,9 @@ module _ (s : State) (b : Book) (place : ℕ → ℕ) (inv : Inv s b place) wher
     where
       ends : Result ℕ Refusal → Type 0
       ends o = (walks o).holds ≡ true → MayHold s.cell s.phase s.cursor row place (led b.slot (b.slot r i) is)
-          (walk_end o)
+          (result_unwrap_or o 0)
 
   pub follow_keeps : (j g : ℕ) (path : List ℕ) (h : ℕ) → Passed (job_checks s j (follow g path h)) →
-      Inv (set_hand s j h (walk_end (walk s.cell (hand s j g) 0 path))) (hold b j h (led b.slot (b.holds j g) path)) place
+      Inv (set_hand s j h (result_unwrap_or (walk s.cell (hand s j g) 0 path) 0)) (hold b j h (led b.slot (b.holds j g) path)) place
   follow_keeps j g path h (gs, (hs, (short, (run, (some_held, (ends, rest)))))) = hand_keeps s b place j h _ _ inv
       (running_open _ run) (hand_range h hs) (walk_may (s.job j) path (b.holds j g) (hand s j g) 0 (held_may j g) ends)

@@ -1,5 +1,6 @@
 -- Find, make and settle keep the invariant.
-use Rattle.std.proofs.Common.{◌≡◌, ℕ, suc, ◌≤◌, Bool, true, false, not, ◌≢◌, List, replicate, sym, refl, ap, ◌∙◌, subst, inl, inr, arith, Option, Some, None}
+use Rattle.std.proofs.Common.{◌≡◌, ℕ, suc, ◌≤◌, Bool, true, false, not, ◌≢◌, List, replicate, sym, refl, ap, ◌∙◌, subst, inl, inr, arith, Option, Some, None, bytes_eq}
+use Rattle.std.proofs.lemmas.Slice.Eq.{bytes_eq-Decides}
 use Rattle.std.proofs.lemmas.Bool.{cases_Bool}
 use Rattle.model.specs.declared.Colour.TheVariants.{White}
 use Rattle.model.specs.declared.Phase.{Phase}
@@ -7,7 +8,7 @@ use Rattle.model.specs.declared.Phase.TheVariants.{Arming, Cleaning, Normal, Par
 use Rattle.model.specs.Book.{Book, bearer, hold, is_named, latest, new_record}
 use Rattle.model.specs.Calls.{Spelling, find, make, text}
 use Rattle.model.specs.Cycle.{grey_if, new_colour}
-use Rattle.model.specs.Machine.{Card, Cell, Job, State, card_of, colour, filed, is_running, reads_empty, same_text, set_hand, upd, used}
+use Rattle.model.specs.Machine.{Card, Cell, Job, State, card_of, colour, filed, is_running, reads_empty, set_hand, upd, used}
 use Rattle.model.specs.Runs.{FreeCell}
 use Rattle.model.specs.Tables.{filed_on, find_greys, found_into, job_checks, settles, taken, vacant_card}
 use Rattle.model.proofs.BarrierKeeps.{cells_if, grey_keeps, greys_if, marked_if, phase_if}
@@ -18,7 +19,7 @@ use Rattle.model.proofs.GreyingKeeps.{Greys, grey_keep, repeats_marking}
 use Rattle.model.proofs.Invariant.{Greying, Inv, Keeps, Kept, Live, LiveCard, Marked, Marking, marked}
 use Rattle.model.proofs.JobRowsKeep.{MayHold, hand_keeps, running_open}
 use Rattle.model.proofs.PhaseCases.{marking_cases}
-use Rattle.model.proofs.TableLaws.{same_text_eq, same_text_refl, upd_all, upd_other, upd_same, vacant_passes, vacant_range}
+use Rattle.model.proofs.TableLaws.{upd_all, upd_other, upd_same, vacant_passes, vacant_range}
 use Rattle.model.proofs.TakingKeeps.{file_cards, latest_most, latest_new, latest_old, new_kept, not_empty, take_cards, take_heap, take_job, take_recs, take_rel, take_unlive}
 
 -- find greys only where calls grey, and wherever a record must be protected
@@ -151,7 +152,7 @@ module _ (s : State) (b : Book) (place : ℕ → ℕ) (inv : Inv s b place) wher
           (upd_all (λ m x. Live (upd f pick (used (new_colour p cur pick) k (replicate w 0))) p x →
           upd place (suc b.count) pick (latest (upd b.name (suc b.count) (Some t)) (suc b.count) x.spelling) ≡
           x.record_at) s.card k C
-          (λ l. ap (upd place (suc b.count) pick) (latest_new b.name b.count (Some t) t (same_text_refl t))
+          (λ l. ap (upd place (suc b.count) pick) (latest_new b.name b.count (Some t) t ((bytes_eq-Decides t t).1 refl))
           ∙ upd_same place (suc b.count) pick)
           (λ m e l. let live = take_unlive f p cur pick k w vac (s.card m) l in still_newest pick m (Some t) live
           (other m live)));
@@ -173,9 +174,9 @@ module _ (s : State) (b : Book) (place : ℕ → ℕ) (inv : Inv s b place) wher
         C : Card
         C = record { spelling = t; record_at = pick }
 
-        other : (m : ℕ) → Live f p (s.card m) → same_text t (s.card m).spelling ≡ false
-        other m l = elim (cases_Bool (same_text t (s.card m).spelling))
-            [ inl e ↦ absurd (off m l (sym (same_text_eq _ _ e))) | inr e ↦ e ]
+        other : (m : ℕ) → Live f p (s.card m) → bytes_eq t (s.card m).spelling ≡ false
+        other m l = elim (cases_Bool (bytes_eq t (s.card m).spelling))
+            [ inl e ↦ absurd (off m l (sym ((bytes_eq-Decides _ _).0 e))) | inr e ↦ e ]
 
     pub settle_makes : (j : ℕ) (t : List ℕ) (h : ℕ) → is_running (s.job j).status ≡ true → (1 ≤ h) × (h ≤ 8) → filed s t ≡ 0 →
         vacant_card s ≢ 0 →

@@ -1,34 +1,20 @@
 -- Arguments by phase, said once for each set of phases.
-use Rattle.std.proofs.Common.{◌≡◌, ℕ, zero, suc, true, T, sym, refl, ap, ◌∙◌, eqb-true}
+use Rattle.std.proofs.Common.{◌≡◌, true, T, refl}
 use Rattle.model.specs.declared.Phase.{Phase}
 use Rattle.model.specs.declared.Phase.TheVariants.{Arming, Cleaning, Normal, Parting, Repeat, Scanning, Sweeping, Tracing}
-use Rattle.model.specs.Machine.{in_phase, is_tracing, phase_number}
+use Rattle.model.specs.Machine.{in_phase, is_tracing}
 use Rattle.model.proofs.Invariant.{Greying, Marking}
 
--- a phase is told by its number
-phase_at : ℕ → Phase
-phase_at zero = Normal
-phase_at (suc zero) = Arming
-phase_at (suc (suc zero)) = Scanning
-phase_at (suc (suc (suc zero))) = Tracing
-phase_at (suc (suc (suc (suc zero)))) = Repeat
-phase_at (suc (suc (suc (suc (suc zero))))) = Cleaning
-phase_at (suc (suc (suc (suc (suc (suc zero)))))) = Parting
-phase_at (suc (suc (suc (suc (suc (suc (suc n))))))) = Sweeping
-
-at_number : (p : Phase) → phase_at (phase_number p) ≡ p
-unfolding phase_at
-at_number Normal = refl
-at_number Arming = refl
-at_number Scanning = refl
-at_number Tracing = refl
-at_number Repeat = refl
-at_number Cleaning = refl
-at_number Parting = refl
-at_number Sweeping = refl
-
 pub phase_is : (q p : Phase) → in_phase q p ≡ true → p ≡ q
-phase_is q p e = sym (at_number p) ∙ ap phase_at (sym (eqb-true (phase_number q) (phase_number p) e)) ∙ at_number q
+phase_is Normal Normal e = refl
+phase_is Arming Arming e = refl
+phase_is Scanning Scanning e = refl
+phase_is Tracing Tracing e = refl
+phase_is Repeat Repeat e = refl
+phase_is Cleaning Cleaning e = refl
+phase_is Parting Parting e = refl
+phase_is Sweeping Sweeping e = refl
+phase_is _ _ e = cc
 
 -- what holds in each phase in which calls grey records
 pub greying_cases : (P : Phase → Type 0) → P Arming → P Scanning → P Tracing → P Repeat → (p : Phase) → Greying p → P p

@@ -1,10 +1,10 @@
 -- The book's slots hold what the last granted store put there, and a granted load gives just that.
-use Rattle.std.proofs.Common.{◌≡◌, ℕ, suc, ◌<◌, ◌≤◌, Bool, true, false, ◌≢◌, ◌⊎◌, length, Ok, Err, Result, sym, refl, ap, ◌∙◌, subst, inl, inr, arith}
+use Rattle.std.proofs.Common.{◌≡◌, ℕ, suc, ◌<◌, ◌≤◌, Bool, true, false, ◌≢◌, ◌⊎◌, length, Ok, Err, Result, sym, refl, ap, ◌∙◌, subst, inl, inr, arith, is_ok}
 use borrow.Author.Tests.{both_ways}
 use Rattle.std.proofs.lemmas.Bool.{cases_eq}
 use Rattle.refusal.specs.declared.Refusal.{Refusal}
 use Rattle.model.specs.Book.{Book, is_found, write, write_settle}
-use Rattle.model.specs.Calls.{Answer, Call, Grant, begin, by, close, copy, drop_hand, find, follow, is_granted, load, make, nod, open_job, park, same, settle, spelling_of, step, store, text, wake}
+use Rattle.model.specs.Calls.{Answer, Call, Grant, begin, by, close, copy, drop_hand, find, follow, load, make, nod, open_job, park, same, settle, spelling_of, step, store, text, wake}
 use Rattle.model.specs.Machine.{Job, State, at, hand, held, set_hand, slots, upd}
 use Rattle.model.specs.Runs.{Granted, LastPut, Picks, Puts, Run, World, earlier, granted, never, next, next_by, puts, start, then, this}
 use Rattle.model.specs.Tables.{job_checks, job_effect, outcome, running}
@@ -117,14 +117,14 @@ slots_last_put (then {x = y} run c pick right) r i = by_outcome (outcome y.state
 
     by_outcome : (o : Result Grant Refusal) → outcome y.state c pick ≡ o → LastPut r i (y.book.slot r i) y run →
         after c ((next_by y c pick o).book.slot r i)
-    by_outcome (Err e) q h = earlier (λ u g p. both_ways _ (ap is_granted q) g) h
+    by_outcome (Err e) q h = earlier (λ u g p. both_ways _ (ap is_ok q) g) h
     by_outcome (Ok a) q h = on (slots_stay_or_store y.book c a.answer (run_sound run).recs.unmade_slots)
       where
         on : SlotsStay y.book c a.answer ⊎ IsStore c → after c ((write y.book c a.answer).slot r i)
         on (inl s) = subst (after c) (sym (s.same_slot r i))
             (earlier (λ u g p. let t = puts_is p in s.no_store t.0 t.1 i t.2 t.3) h)
         on (inr s) = subst (λ (d : Call). Granted y d pick → after d ((write y.book d a.answer).slot r i)) (sym s.is)
-            (λ ok. stored_last run s.job s.of s.at_slot s.from pick right r i ok h) (ap is_granted q)
+            (λ ok. stored_last run s.job s.of s.at_slot s.from pick right r i ok h) (ap is_ok q)
 
 -- a new edge between records leads to what a hand holds
 pub new_edge : (b : Book) (c : Call) (a : Answer) → UnmadeEmpty b →

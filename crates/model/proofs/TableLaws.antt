@@ -1,8 +1,8 @@
 -- Laws of tables, slot lists, searches and texts.
-use Rattle.std.proofs.Common.{◌≡◌, ℕ, zero, suc, ◌+◌, ◌-◌, ◌<◌, ◌≤◌, Bool, true, false, eqb, ◌≢◌, ◌⊎◌, List, [], ◌∷◌, length, get_or, set, replicate, sym, refl, ap, subst, inl, inr, arith, length-set, get_or-set_other, get_or-set_same, eq-eqb, eqb-true}
-use borrow.Author.Tests.{both_ways, eqb-false}
-use Rattle.std.proofs.lemmas.Bool.{and_parts, cases_eq, cond_both}
-use Rattle.model.specs.Machine.{at, first, next_vacant, or_else, put, same_text, upd}
+use Rattle.std.proofs.Common.{◌≡◌, ℕ, zero, suc, ◌+◌, ◌-◌, ◌<◌, ◌≤◌, Bool, true, false, eqb, ◌≢◌, ◌⊎◌, List, [], length, get_or, set, replicate, sym, refl, ap, subst, inl, inr, arith, length-set, get_or-set_other, get_or-set_same, eqb-true}
+use borrow.Author.Tests.{eqb-false}
+use Rattle.std.proofs.lemmas.Bool.{cases_eq, cond_both}
+use Rattle.model.specs.Machine.{at, first, next_vacant, or_else, put, upd}
 
 pub upd_elim : {A : Type 0} (P : A → Type 0) (f : ℕ → A) (i j : ℕ) (v : A) → (i ≡ j → P v) → (i ≢ j → P (f j)) → P (upd f i v j)
 upd_elim P f i j v a b = cond_both (eqb i j) v (f j) P (λ e. a (eqb-true i j e)) (λ e. b (eqb-false i j e))
@@ -81,19 +81,6 @@ vacant_range t last n small h = go (first t (suc last) (n - last)) refl h
         (1 ≤ or_else r (first t 1 last)) × (or_else r (first t 1 last) ≤ n)
     go zero e k = let r = first_range t 1 last k in (omega arith, omega arith)
     go (suc r) e k = let q = first_range t (suc last) (n - last) (λ z. omega arith) in (omega arith, omega arith)
-
-pub same_text_eq : (x y : List ℕ) → same_text x y ≡ true → x ≡ y
-unfolding same_text
-same_text_eq [] [] h = refl
-same_text_eq [] (y ∷ ys) h = absurd (both_ways false refl h)
-same_text_eq (x ∷ xs) [] h = absurd (both_ways false refl h)
-same_text_eq (x ∷ xs) (y ∷ ys) h = let p = and_parts (eqb x y) (same_text xs ys) h in λ i. eqb-true x y p.0 i ∷ same_text_eq xs
-    ys p.1 i
-
-pub same_text_refl : (x : List ℕ) → same_text x x ≡ true
-unfolding same_text
-same_text_refl [] = refl
-same_text_refl (x ∷ xs) = rw (eq-eqb x x refl) (same_text_refl xs)
 
 pub upd_all : {A : Type 0} (P : ℕ → A → Type 0) (f : ℕ → A) (i : ℕ) (v : A) → P i v → ((j : ℕ) → i ≢ j → P j (f j)) →
     (j : ℕ) → P j (upd f i v j)

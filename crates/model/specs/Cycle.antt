@@ -1,7 +1,7 @@
 -- The collector's cycle: greying, the colour of new records, nods, and what a step does.
 -- NORMAL, then ARMING and SCANNING (handshakes), TRACING and REPEAT (marking), CLEANING (cards), PARTING (a handshake),
 -- SWEEPING (freeing), and NORMAL again.
-use Rattle.std.specs.Prelude.{ℕ, zero, suc, Bool, true, false, cond, not, ◌&&◌, ◌||◌, List, [], ◌∷◌, ◌==◌, nat_lt}
+use Rattle.std.specs.Prelude.{ℕ, zero, suc, Bool, true, false, cond, not, ◌&&◌, List, [], ◌∷◌, ◌==◌, nat_lt}
 use Rattle.model.specs.declared.Colour.{Colour}
 use Rattle.model.specs.declared.Colour.TheVariants.{White, Grey, Black}
 use Rattle.model.specs.declared.JobState.{JobState}
@@ -14,10 +14,8 @@ use Rattle.model.specs.Machine.{State, with_cells, set_cell, with_cards, with_jo
 
 -- a white record becomes grey; every other cell stays
 abbrev pub greyed : Cell → Cell
-greyed free = free
 greyed (used White k l) = used Grey k l
-greyed (used Grey k l) = used Grey k l
-greyed (used Black k l) = used Black k l
+greyed x = x
 
 -- every cell of a list is greyed
 unfoldable pub grey_all : (ℕ → Cell) → List ℕ → ℕ → Cell
@@ -26,7 +24,8 @@ grey_all f (v ∷ vs) = grey_all (upd f v (greyed (f v))) vs
 
 -- a record that turns grey in TRACING may lie behind the cursor, so the phase becomes REPEAT: one more round
 abbrev pub repeating : Phase → Phase
-repeating p = cond (in_phase Tracing p) Repeat p
+repeating Tracing = Repeat
+repeating p = p
 
 -- a call greys one cell, if a test passes
 abbrev pub grey_if : Bool → State → ℕ → State
@@ -35,7 +34,10 @@ grey_if test s c = at_phase (with_cells s (cond test (upd s.cell c (greyed (s.ce
 
 -- a new record is white in NORMAL and ARMING, and in SWEEPING if its cell was already visited; otherwise black
 abbrev pub new_colour : Phase → ℕ → ℕ → Colour
-new_colour p cursor c = cond (among (Normal ∷ Arming ∷ []) p || (in_phase Sweeping p && nat_lt c cursor)) White Black
+new_colour Normal cursor c = White
+new_colour Arming cursor c = White
+new_colour Sweeping cursor c = cond (nat_lt c cursor) White Black
+new_colour _ cursor c = Black
 
 -- HANDSHAKES
 
@@ -44,8 +46,14 @@ abbrev pub all_owe : State → State
 all_owe s = with_jobs s (λ j. record { status = (s.job j).status; armed = (s.job j).armed; owes = is_open (s.job j).status; hands = (s.job j).hands }) s.last_job
 
 -- a nod in ARMING arms the job, and one in PARTING disarms it
+abbrev pub armed_after : Phase → Bool → Bool
+armed_after Arming armed = true
+armed_after Parting armed = false
+armed_after _ armed = armed
+
+-- a job after its nod
 abbrev pub nodded_job : Phase → Job → Job
-nodded_job p row = record { status = row.status; armed = cond (in_phase Arming p) true (cond (in_phase Parting p) false row.armed); owes = false; hands = row.hands }
+nodded_job p row = record { status = row.status; armed = armed_after p row.armed; owes = false; hands = row.hands }
 
 -- the store after a nod of job j: in SCANNING what its hands hold becomes grey
 unfoldable pub nodded : State → ℕ → State
@@ -110,10 +118,9 @@ clean_on s = cond (nat_lt s.cursor 512) (onward s) (at_phase (all_owe s) Parting
 
 -- a step in SWEEPING frees a white record and makes a black one white
 abbrev pub swept_cell : Cell → Cell
-swept_cell free = free
 swept_cell (used White k l) = free
-swept_cell (used Grey k l) = used Grey k l
 swept_cell (used Black k l) = used White k l
+swept_cell x = x
 
 -- ... in the store, at the cursor
 abbrev pub swept : State → State

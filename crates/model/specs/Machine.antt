@@ -1,9 +1,10 @@
 -- The store as an abstract machine: what it holds, and how that is read and changed.
 -- Cells, cards and jobs are tables: functions from numbers, counted from 1. Slots and hands are lists, counted from 1.
 -- Where a number names a cell, a card or a job, 0 names none.
-use Rattle.std.specs.Prelude.{ℕ, zero, suc, ◌-◌, Bool, true, false, cond, not, ◌&&◌, ◌||◌, List, [], ◌∷◌, get_or, set, ◌==◌, Option, Some, None}
+use Rattle.std.specs.Prelude.{ℕ, zero, suc, ◌-◌, Bool, true, false, cond, not, ◌&&◌, ◌||◌, List, [], ◌∷◌, get_or, set, bytes_eq, ◌==◌, Option, Some, None}
+use Rattle.std.specs.List.{list_any}
 use Rattle.model.specs.declared.Colour.{Colour}
-use Rattle.model.specs.declared.Colour.TheVariants.{White, Grey, Black}
+use Rattle.model.specs.declared.Colour.TheVariants.{White, Grey}
 use Rattle.model.specs.declared.JobState.{JobState}
 use Rattle.model.specs.declared.JobState.TheVariants.{Closed, Running, Parked}
 use Rattle.model.specs.declared.Phase.{Phase}
@@ -39,13 +40,6 @@ or_else (suc a) b = suc a
 unfoldable pub next_vacant : (ℕ → Bool) → ℕ → ℕ → ℕ
 next_vacant vacant last n = or_else (first vacant (suc last) (n - last)) (first vacant 1 last)
 
--- whether two texts are equal
-unfoldable pub same_text : List ℕ → List ℕ → Bool
-same_text [] [] = true
-same_text [] (y ∷ ys) = false
-same_text (x ∷ xs) [] = false
-same_text (x ∷ xs) (y ∷ ys) = x == y && same_text xs ys
-
 -- CELLS
 
 -- a cell: free, or a record with its colour, the card that names it (0 for an unnamed one) and its slots
@@ -74,16 +68,12 @@ is_free free = true
 is_free (used c k l) = false
 
 abbrev pub is_white : Cell → Bool
-is_white free = false
 is_white (used White k l) = true
-is_white (used Grey k l) = false
-is_white (used Black k l) = false
+is_white _ = false
 
 abbrev pub is_grey : Cell → Bool
-is_grey free = false
-is_grey (used White k l) = false
 is_grey (used Grey k l) = true
-is_grey (used Black k l) = false
+is_grey _ = false
 
 -- a record with another colour
 abbrev pub painted : Colour → Cell → Cell
@@ -113,39 +103,32 @@ pub record Job : Type 0 where
 
 -- tests on a job's status; a job is open if it runs or is parked
 abbrev pub is_running : JobState → Bool
-is_running Closed = false
 is_running Running = true
-is_running Parked = false
+is_running _ = false
 
 abbrev pub is_parked : JobState → Bool
-is_parked Closed = false
-is_parked Running = false
 is_parked Parked = true
+is_parked _ = false
 
 abbrev pub is_open : JobState → Bool
 is_open Closed = false
-is_open Running = true
-is_open Parked = true
+is_open _ = true
 
--- phases are told apart by numbers
-abbrev pub phase_number : Phase → ℕ
-phase_number Normal = 0
-phase_number Arming = 1
-phase_number Scanning = 2
-phase_number Tracing = 3
-phase_number Repeat = 4
-phase_number Cleaning = 5
-phase_number Parting = 6
-phase_number Sweeping = 7
-
--- whether phase p is q
+-- whether two phases are the same
 abbrev pub in_phase : Phase → Phase → Bool
-in_phase q p = phase_number q == phase_number p
+in_phase Normal Normal = true
+in_phase Arming Arming = true
+in_phase Scanning Scanning = true
+in_phase Tracing Tracing = true
+in_phase Repeat Repeat = true
+in_phase Cleaning Cleaning = true
+in_phase Parting Parting = true
+in_phase Sweeping Sweeping = true
+in_phase _ _ = false
 
 -- whether phase p is one of some
 abbrev pub among : List Phase → Phase → Bool
-among [] p = false
-among (q ∷ qs) p = in_phase q p || among qs p
+among phases p = list_any (λ q. in_phase q p) phases
 
 -- the phases in which trace steps visit cells
 abbrev pub is_tracing : Phase → Bool
@@ -205,7 +188,7 @@ reads_empty s k = (s.card k).record_at == 0 || (in_phase Cleaning s.phase && is_
 
 -- whether card k has a spelling on file
 abbrev pub bears : State → List ℕ → ℕ → Bool
-bears s text k = not (reads_empty s k) && same_text (s.card k).spelling text
+bears s text k = not (reads_empty s k) && bytes_eq (s.card k).spelling text
 
 -- the card that has a spelling on file, or 0 if it is off file
 unfoldable pub filed : State → List ℕ → ℕ

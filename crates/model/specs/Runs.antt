@@ -1,10 +1,10 @@
 -- Runs: every list of calls on a store that began new, over every heap, with the book beside it.
-use Rattle.std.specs.Prelude.{◌≡◌, ℕ, suc, ◌≤◌, true, cond, T, ◌≢◌, List, Ok, Err, Result, nat_lt, None}
+use Rattle.std.specs.Prelude.{◌≡◌, ℕ, suc, ◌≤◌, cond, T, ◌≢◌, List, Ok, Err, Result, is_ok, IsOk, nat_lt, None}
 use Rattle.refusal.specs.declared.Refusal.{Refusal}
 use Rattle.model.specs.declared.Phase.{Phase}
 use Rattle.model.specs.declared.Phase.TheVariants.{Tracing, Cleaning}
 use Rattle.model.specs.Machine.{upd, colour, is_free, is_tracing, State, new_state, filed}
-use Rattle.model.specs.Calls.{store, Call, by, open_job, begin, step, Grant, is_granted}
+use Rattle.model.specs.Calls.{store, Call, by, begin, step, Grant}
 use Rattle.model.specs.Tables.{room, outcome}
 use Rattle.model.specs.Book.{Book, new_book, write, Reached}
 
@@ -83,7 +83,7 @@ Loses x c pick t = (filed x.state t ≢ 0) × (filed (next x c pick).state t ≡
 
 -- a call was granted
 abbrev pub Granted : World → Call → ℕ → Type 0
-Granted x c pick = is_granted (outcome x.state c pick) ≡ true
+Granted x c pick = IsOk (outcome x.state c pick)
 
 -- a call is a store of v into slot i of record r
 pub data Puts (b : Book) (r i v : ℕ) : Call → Type 0 where
@@ -100,13 +100,12 @@ pub data LastPut (r i : ℕ) : (v : ℕ) (x : World) → Run x → Type 0 where
 
 -- what a granted call makes of the number of trace steps since the last begin, in a phase
 abbrev pub count_call : Call → Phase → ℕ → ℕ
-count_call (by j a) p n = n
-count_call open_job p n = n
 count_call begin p n = 0
 count_call step p n = cond (is_tracing p) (suc n) n
+count_call _ p n = n
 
 -- the trace steps of a run since the last granted begin
 unfoldable pub trace_steps : {x : World} → Run x → ℕ
 trace_steps (start n w small) = 0
 trace_steps (then {x = y} run c pick right) =
-    let old = trace_steps run in cond (is_granted (outcome y.state c pick)) (count_call c y.state.phase old) old
+    let old = trace_steps run in cond (is_ok (outcome y.state c pick)) (count_call c y.state.phase old) old

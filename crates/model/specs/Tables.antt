@@ -1,6 +1,7 @@
 -- The tables of all calls: the conditions under which each is granted, and what it then answers and changes.
 -- Conditions on the input come before those on the state, and lower refusal numbers before higher ones.
 use Rattle.std.specs.Prelude.{ℕ, zero, suc, Bool, true, false, cond, not, ◌&&◌, ◌||◌, List, [], ◌∷◌, length, replicate, Ok, Err, Result, ◌==◌, nat_le}
+use Rattle.std.specs.Result.{result_unwrap_or}
 use Rattle.refusal.specs.declared.Reason.TheVariants.{NoSuchHand, WidthTooLarge, WalkTooLong, BufferTooShort, JobNotOpen, AllJobsOpen, NothingHeld, NoSuchSlot, NoFreeCell, NoVacantCard, NotOnFile, CycleRunning, NoCycle, NodsOwed, NoNodOwed, NoCells}
 use Rattle.refusal.specs.declared.Refusal.{Refusal}
 use Rattle.model.specs.declared.JobState.{JobState}
@@ -45,11 +46,6 @@ unfoldable pub walk : (ℕ → Cell) → ℕ → ℕ → List ℕ → Result ℕ
 walk f c steps [] = Ok c
 walk f c steps (i ∷ is) = cond (c == 0) (Err (record { reason = NothingHeld; place = steps }))
     (cond (slot_ok (f c) i) (walk f (at (slots (f c)) i) (suc steps) is) (Err (record { reason = NoSuchSlot; place = suc steps })))
-
--- what a walk that ends, ends at
-abbrev pub walk_end : Result ℕ Refusal → ℕ
-walk_end (Ok v) = v
-walk_end (Err e) = 0
 
 -- CONDITIONS
 
@@ -183,7 +179,7 @@ job_effect s j (store g i h) pick = grant done (stored s j (hand s j g) i (hand 
 job_effect s j (copy g h) pick = grant done (set_hand s j h (hand s j g))
 job_effect s j (drop_hand h) pick = grant done (set_hand s j h 0)
 job_effect s j (same g h) pick = grant (told (hand s j g == hand s j h)) s
-job_effect s j (follow g path h) pick = grant done (set_hand s j h (walk_end (walk s.cell (hand s j g) 0 path)))
+job_effect s j (follow g path h) pick = grant done (set_hand s j h (result_unwrap_or (walk s.cell (hand s j g) 0 path) 0))
 job_effect s j (spelling_of h n) pick = grant (spelled (text_on s (card_of (held s j h)))) s
 
 -- what each call answers and leaves
