@@ -20,7 +20,7 @@ new_book = record { holds = λ j h. 0; count = 0; width = λ r. 0; slot = λ r i
 
 -- the book with other hands
 abbrev pub with_holds : Book → (ℕ → ℕ → ℕ) → Book
-with_holds b f = record { holds = f; count = b.count; width = b.width; slot = b.slot; name = b.name }
+with_holds b f = record b { holds = f }
 
 -- a record goes into a hand
 abbrev pub hold : Book → ℕ → ℕ → ℕ → Book
@@ -28,11 +28,16 @@ hold b j h r = with_holds b (upd b.holds j (upd (b.holds j) h r))
 
 -- one more record, with empty slots
 abbrev pub new_record : Book → ℕ → Option (List ℕ) → Book
-new_record b w n = record { holds = b.holds; count = suc b.count; width = upd b.width (suc b.count) w; slot = upd b.slot (suc b.count) (λ i. 0); name = upd b.name (suc b.count) n }
+new_record b w n = record b {
+  count = suc b.count;
+  width = upd b.width (suc b.count) w;
+  slot = upd b.slot (suc b.count) (λ i. 0);
+  name = upd b.name (suc b.count) n;
+}
 
 -- slot i of record r gets v
 abbrev pub write_slot : Book → ℕ → ℕ → ℕ → Book
-write_slot b r i v = record { holds = b.holds; count = b.count; width = b.width; slot = upd b.slot r (upd (b.slot r) i v); name = b.name }
+write_slot b r i v = record b { slot = upd b.slot r (upd (b.slot r) i v) }
 
 -- whether a record's name is a text
 abbrev pub is_named : Option (List ℕ) → List ℕ → Bool

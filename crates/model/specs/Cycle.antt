@@ -43,7 +43,7 @@ new_colour _ cursor c = Black
 
 -- on entry to a phase that waits for nods every open job owes one
 abbrev pub all_owe : State → State
-all_owe s = with_jobs s (λ j. record { status = (s.job j).status; armed = (s.job j).armed; owes = is_open (s.job j).status; hands = (s.job j).hands }) s.last_job
+all_owe s = with_jobs s (λ j. record (s.job j) { owes = is_open (s.job j).status }) s.last_job
 
 -- a nod in ARMING arms the job, and one in PARTING disarms it
 abbrev pub armed_after : Phase → Bool → Bool
@@ -53,7 +53,7 @@ armed_after _ armed = armed
 
 -- a job after its nod
 abbrev pub nodded_job : Phase → Job → Job
-nodded_job p row = record { status = row.status; armed = armed_after p row.armed; owes = false; hands = row.hands }
+nodded_job p row = record row { armed = armed_after p row.armed; owes = false }
 
 -- the store after a nod of job j: in SCANNING what its hands hold becomes grey
 unfoldable pub nodded : State → ℕ → State
@@ -106,7 +106,7 @@ trace_on s = cond (nat_lt s.cursor s.size) (onward s) (round_end s)
 
 -- the card at the cursor is cleared
 abbrev pub cleared : State → State
-cleared s = with_cards s (upd s.card s.cursor (record { spelling = (s.card s.cursor).spelling; record_at = 0 })) s.last_card
+cleared s = with_cards s (upd s.card s.cursor (record (s.card s.cursor) { record_at = 0 })) s.last_card
 
 -- a step in CLEANING clears the card at the cursor if its record is white
 abbrev pub cleaned : State → State

@@ -198,7 +198,7 @@ filed s text = first (bears s text) 1 512
 
 -- ... with other cells
 abbrev pub with_cells : State → (ℕ → Cell) → State
-with_cells s f = record { size = s.size; widest = s.widest; cell = f; card = s.card; job = s.job; phase = s.phase; cursor = s.cursor; rounds = s.rounds; last_card = s.last_card; last_job = s.last_job }
+with_cells s f = record s { cell = f }
 
 -- ... with one other cell
 abbrev pub set_cell : State → ℕ → Cell → State
@@ -206,11 +206,11 @@ set_cell s c x = with_cells s (upd s.cell c x)
 
 -- ... with other cards, and the one taken last
 abbrev pub with_cards : State → (ℕ → Card) → ℕ → State
-with_cards s f last = record { size = s.size; widest = s.widest; cell = s.cell; card = f; job = s.job; phase = s.phase; cursor = s.cursor; rounds = s.rounds; last_card = last; last_job = s.last_job }
+with_cards s f last = record s { card = f; last_card = last }
 
 -- ... with other jobs, and the one opened last
 abbrev pub with_jobs : State → (ℕ → Job) → ℕ → State
-with_jobs s f last = record { size = s.size; widest = s.widest; cell = s.cell; card = s.card; job = f; phase = s.phase; cursor = s.cursor; rounds = s.rounds; last_card = s.last_card; last_job = last }
+with_jobs s f last = record s { job = f; last_job = last }
 
 -- ... with one other job
 abbrev pub set_job : State → ℕ → Job → State
@@ -218,7 +218,7 @@ set_job s j row = with_jobs s (upd s.job j row) s.last_job
 
 -- a job with other hands
 abbrev pub with_hands : Job → List ℕ → Job
-with_hands row l = record { status = row.status; armed = row.armed; owes = row.owes; hands = l }
+with_hands row l = record row { hands = l }
 
 -- ... with one hand of one job changed
 abbrev pub set_hand : State → ℕ → ℕ → ℕ → State
@@ -226,4 +226,4 @@ set_hand s j h v = set_job s j (with_hands (s.job j) (put (s.job j).hands h v))
 
 -- ... in a phase, at a cursor, in a round
 abbrev pub at_phase : State → Phase → ℕ → ℕ → State
-at_phase s p cursor rounds = record { size = s.size; widest = s.widest; cell = s.cell; card = s.card; job = s.job; phase = p; cursor = cursor; rounds = rounds; last_card = s.last_card; last_job = s.last_job }
+at_phase s p cursor rounds = record s { phase = p; cursor = cursor; rounds = rounds }

@@ -117,7 +117,7 @@ opened_job p = record { status = Running; armed = among (Arming ∷ Scanning ∷
 
 -- a job with another status
 abbrev pub with_status : JobState → Job → Job
-with_status t row = record { status = t; armed = row.armed; owes = row.owes; hands = row.hands }
+with_status t row = record row { status = t }
 
 -- a new record, with a card and a width, in the cell that the heap picked
 unfoldable pub taken : State → ℕ → ℕ → ℕ → State
