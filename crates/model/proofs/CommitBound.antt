@@ -9,7 +9,7 @@ use Rattle.model.specs.Calls.{Call, begin, by, open_job, step}
 use Rattle.model.specs.Cycle.{all_owe, clean_on, cleared, grey_all, handshake, nod_or, nodded, onward, owing, scanned, step_from, swept, trace_on}
 use Rattle.model.specs.Machine.{Cell, State, at_phase, colour, is_grey, is_parked, is_tracing, is_white, painted, slots, upd}
 use Rattle.model.specs.Promise.{trace_limit}
-use Rattle.model.specs.Runs.{Run, World, count_call, next, next_by, start, then, trace_steps}
+use Rattle.model.specs.Runs.{Run, World, count_call, next, next_by, start, called, trace_steps}
 use Rattle.model.specs.Tables.{checks, effect, outcome, vacant_job}
 use Rattle.model.proofs.CallsByEffect.{effect_of}
 use Rattle.model.proofs.Colours.{clash, grey_is}
@@ -169,7 +169,7 @@ call_bounds x t pick inv h step p = step_bounds x.state t x.state.phase refl h
 run_bounds : {x : World} (run : Run x) → InBounds x.state (trace_steps run)
 unfolding next outcome trace_steps
 run_bounds (start n w small) = omega arith
-run_bounds (then {x = y} run c pick right) = decided
+run_bounds (called {x = y} run c pick right) = decided
     (λ o. InBounds (next_by y c pick o).state
     (cond (is_ok o) (count_call c y.state.phase (trace_steps run)) (trace_steps run))) (checks y.state c)
     (effect y.state c pick)

@@ -8,10 +8,10 @@ use Rattle.refusal.specs.declared.Refusal.{Refusal}
 use Rattle.model.specs.declared.Colour.TheVariants.{Black}
 use Rattle.model.specs.declared.JobState.{JobState}
 use Rattle.model.specs.declared.JobState.TheVariants.{Closed, Parked, Running}
-use Rattle.model.specs.Book.{Book, hold, led, with_holds}
+use Rattle.model.specs.Book.{Book, hold, led}
 use Rattle.model.specs.Calls.{copy, drop_hand, follow, load}
 use Rattle.model.specs.Machine.{Job, State, at, closed_row, colour, empty_hands, hand, held, is_open, is_parked, set_hand, set_job, slots, upd, with_jobs}
-use Rattle.model.specs.Tables.{job_checks, opened_job, slot_ok, vacant_job, walk, walks, with_status}
+use Rattle.model.specs.Tables.{job_checks, opened_job, slot_ok, vacant_job, walk, walks}
 use Rattle.model.proofs.Colours.{black_or, clash}
 use Rattle.model.proofs.Granted.{Passed, hand_range, not_zero}
 use Rattle.model.proofs.Invariant.{Inv, Keeps, Marking, Protected, StandsFor, via}
@@ -41,7 +41,7 @@ module _ (s : State) (b : Book) (place : ℕ → ℕ) (inv : Inv s b place) wher
       rel : (g : ℕ) → StandsFor place (b.holds k g) (at empty_hands g)
       rel g = subst (λ (v : ℕ). StandsFor place (b.holds k g) v) ((inv.jobs k).shut shut g ∙ sym (at_none g)) (inv.hands k g)
 
-  pub close_keeps : (j : ℕ) → Inv (set_job s j closed_row) (with_holds b (upd b.holds j (λ h. 0))) place
+  pub close_keeps : (j : ℕ) → Inv (set_job s j closed_row) (record b { holds = upd b.holds j (λ h. 0) }) place
   close_keeps j = row_keeps s b place j s.last_job closed_row (λ h. 0) inv inv.lasts.1
       (close_ok s.cell s.phase s.cursor j) (λ g. record {
         is = at_none g ∙ sym inv.recs.none_at;
@@ -49,8 +49,8 @@ module _ (s : State) (b : Book) (place : ℕ → ℕ) (inv : Inv s b place) wher
       })
 
   pub status_keeps : (j : ℕ) (t : JobState) → is_open t ≡ true → is_open (s.job j).status ≡ true →
-      Inv (set_job s j (with_status t (s.job j))) b place
-  status_keeps j t o w = row_alone_keeps s b place j s.last_job (with_status t (s.job j)) inv inv.lasts.1
+      Inv (set_job s j (record (s.job j) { status = t })) b place
+  status_keeps j t o w = row_alone_keeps s b place j s.last_job (record (s.job j) { status = t }) inv inv.lasts.1
       (stand_ok s.cell s.phase s.cursor j (s.job j) t o w (inv.jobs j)) (inv.hands j)
 
   -- what a hand holds may go into another hand of the job

@@ -6,10 +6,10 @@ use Rattle.model.specs.declared.JobState.{JobState}
 use Rattle.model.specs.declared.JobState.TheVariants.{Closed, Parked, Running}
 use Rattle.model.specs.declared.Phase.{Phase}
 use Rattle.model.specs.declared.Phase.TheVariants.{Arming, Cleaning, Normal, Parting, Repeat, Scanning, Sweeping, Tracing}
-use Rattle.model.specs.Book.{Book, hold, with_holds}
+use Rattle.model.specs.Book.{Book, hold}
 use Rattle.model.specs.Cycle.{grey_all, nodded, nodded_job}
-use Rattle.model.specs.Machine.{Cell, Job, State, at, closed_row, empty_hands, in_phase, is_open, is_running, put, set_hand, upd, with_cells, with_hands, with_jobs}
-use Rattle.model.specs.Tables.{opened_job, with_status}
+use Rattle.model.specs.Machine.{Cell, Job, State, at, closed_row, empty_hands, in_phase, is_open, is_running, put, set_hand, upd, with_cells, with_jobs}
+use Rattle.model.specs.Tables.{opened_job}
 use Rattle.model.proofs.Colours.{clash}
 use Rattle.model.proofs.GreyingKeeps.{Greys, grey_list, greying_keeps, greys_refl, marked_list, stays}
 use Rattle.model.proofs.Invariant.{Flags, HandsOk, Inv, JobOk, Kept, Marking, Protected, StandsFor, marked}
@@ -22,7 +22,7 @@ at_none h = at_zeros 8 h
 -- the jobs' rows change, and with them their hands in the book
 jobs_keep : (s : State) (b : Book) (place : ℕ → ℕ) (rows : ℕ → Job) (holds : ℕ → ℕ → ℕ) (l : ℕ) → Inv s b place → l ≤ 16 →
     ((i : ℕ) → JobOk s.cell s.phase s.cursor i (rows i)) → HandsOk rows holds place →
-    Inv (with_jobs s rows l) (with_holds b holds) place
+    Inv (with_jobs s rows l) (record b { holds = holds }) place
 jobs_keep s b place rows holds l inv small ok hands = record {
   heap = inv.heap;
   jobs = ok;
@@ -35,7 +35,7 @@ jobs_keep s b place rows holds l inv small ok hands = record {
 -- one row changes, and that job's hands in the book
 pub row_keeps : (s : State) (b : Book) (place : ℕ → ℕ) (j l : ℕ) (y : Job) (w : ℕ → ℕ) → Inv s b place → l ≤ 16 →
     JobOk s.cell s.phase s.cursor j y → ((g : ℕ) → StandsFor place (w g) (at y.hands g)) →
-    Inv (with_jobs s (upd s.job j y) l) (with_holds b (upd b.holds j w)) place
+    Inv (with_jobs s (upd s.job j y) l) (record b { holds = upd b.holds j w }) place
 row_keeps s b place j l y w inv small ok rel = jobs_keep s b place (upd s.job j y) (upd b.holds j w) l inv small
     (upd_all (JobOk s.cell s.phase s.cursor) s.job j y ok (λ i n. inv.jobs i))
     (upd_both (λ i x z. (g : ℕ) → StandsFor place (z g) (at x.hands g)) s.job b.holds j y w rel (λ i n. inv.hands i))
@@ -61,7 +61,7 @@ pub record MayHold (f : ℕ → Cell) (p : Phase) (cur : ℕ) (b : Job) (place :
 
 job_hand : (f : ℕ → Cell) (p : Phase) (cur : ℕ) (j : ℕ) (b : Job) (place : ℕ → ℕ) (r h v : ℕ) → JobOk f p cur j b →
     is_open b.status ≡ true → 1 ≤ h → h ≤ 8 → MayHold f p cur b place r v →
-    JobOk f p cur j (with_hands b (put b.hands h v))
+    JobOk f p cur j (record b { hands = put b.hands h v })
 job_hand f p cur j b place r h v ok o lo hi m = record {
   range = ok.range;
   eight = length_put b.hands h v ∙ ok.eight;
@@ -116,7 +116,7 @@ close_ok f p cur j = record {
 }
 
 pub stand_ok : (f : ℕ → Cell) (p : Phase) (cur j : ℕ) (b : Job) (t : JobState) → is_open t ≡ true → is_open b.status ≡ true →
-    JobOk f p cur j b → JobOk f p cur j (with_status t b)
+    JobOk f p cur j b → JobOk f p cur j (record b { status = t })
 stand_ok f p cur j b t o w ok = record {
   range = λ e. ok.range w;
   eight = ok.eight;

@@ -6,7 +6,7 @@ use Rattle.model.specs.declared.Phase.TheVariants.{Normal}
 use Rattle.model.specs.Book.{Book}
 use Rattle.model.specs.Calls.{Action, Call, Spelling, begin, by, close, copy, drop_hand, find, follow, load, make, nod, open_job, park, same, settle, spelling_of, step, store, text, wake}
 use Rattle.model.specs.Machine.{State, filed, upd}
-use Rattle.model.specs.Runs.{FreeCell, Picks, Run, Through, World, granted, more, new_world, next, now, standing, start, then}
+use Rattle.model.specs.Runs.{FreeCell, Picks, Run, Through, World, granted, more, new_world, next, now, standing, start, called}
 use Rattle.model.specs.Tables.{checks, effect, is_on_file, job_checks, job_effect, room, settle_on, settles}
 use Rattle.model.proofs.CardsRead.{filed_live}
 use Rattle.model.proofs.Colours.{clash}
@@ -137,7 +137,7 @@ new_sound n w = record {
 
 pub run_sound : {x : World} → Run x → Sound x
 run_sound (start n w small) = new_sound n w
-run_sound (then {x = y} run c pick right) = next_sound y pick (run_sound run) right c
+run_sound (called {x = y} run c pick right) = next_sound y pick (run_sound run) right c
 
 pub through_sound : {P : World → Type 0} {x y : World} → Through P x y → Sound x → Sound y
 through_sound (now p) h = h

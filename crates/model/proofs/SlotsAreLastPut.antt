@@ -6,7 +6,7 @@ use Rattle.refusal.specs.declared.Refusal.{Refusal}
 use Rattle.model.specs.Book.{Book, is_found, write, write_settle}
 use Rattle.model.specs.Calls.{Answer, Call, Grant, begin, by, close, copy, drop_hand, find, follow, load, make, nod, open_job, park, same, settle, spelling_of, step, store, text, wake}
 use Rattle.model.specs.Machine.{Job, State, at, hand, held, set_hand, slots, upd}
-use Rattle.model.specs.Runs.{Granted, LastPut, Picks, Puts, Run, World, earlier, granted, never, next, next_by, puts, start, then, this}
+use Rattle.model.specs.Runs.{Granted, LastPut, Picks, Puts, Run, World, earlier, granted, never, next, next_by, puts, start, called, this}
 use Rattle.model.specs.Tables.{job_checks, job_effect, outcome, running}
 use Rattle.model.proofs.Colours.{clash}
 use Rattle.model.proofs.Granted.{Passed, granted_next, hand_range, not_zero}
@@ -68,14 +68,14 @@ puts_is (puts j g h e f) = (j, g, h, refl, e)
 stored_last : {x : World} (run : Run x) (j g k h pick : ℕ) (right : Picks x.state pick) (r i : ℕ) →
     Granted x (by j (store g k h)) pick → LastPut r i (x.book.slot r i) x run →
     LastPut r i (upd x.book.slot (x.book.holds j g) (upd (x.book.slot (x.book.holds j g)) k (x.book.holds j h)) r i)
-    (next x (by j (store g k h)) pick) (then run (by j (store g k h)) pick right)
+    (next x (by j (store g k h)) pick) (called run (by j (store g k h)) pick right)
 stored_last {x} run j g k h pick right r i ok old = go (cases_eq (b.holds j g) r) (cases_eq k i)
   where
     b : Book
     b = x.book
 
     after : ℕ → Type 0
-    after v = LastPut r i v (next x (by j (store g k h)) pick) (then run (by j (store g k h)) pick right)
+    after v = LastPut r i v (next x (by j (store g k h)) pick) (called run (by j (store g k h)) pick right)
 
     slot : ℕ → ℕ → ℕ
     slot = upd b.slot (b.holds j g) (upd (b.slot (b.holds j g)) k (b.holds j h))
@@ -110,10 +110,10 @@ stored_last {x} run j g k h pick right r i ok old = go (cases_eq (b.holds j g) r
 pub slots_last_put : {x : World} (run : Run x) (r i : ℕ) → LastPut r i (x.book.slot r i) x run
 unfolding next
 slots_last_put (start n w small) r i = never
-slots_last_put (then {x = y} run c pick right) r i = by_outcome (outcome y.state c pick) refl (slots_last_put run r i)
+slots_last_put (called {x = y} run c pick right) r i = by_outcome (outcome y.state c pick) refl (slots_last_put run r i)
   where
     after : Call → ℕ → Type 0
-    after d v = LastPut r i v (next y d pick) (then run d pick right)
+    after d v = LastPut r i v (next y d pick) (called run d pick right)
 
     by_outcome : (o : Result Grant Refusal) → outcome y.state c pick ≡ o → LastPut r i (y.book.slot r i) y run →
         after c ((next_by y c pick o).book.slot r i)

@@ -1,6 +1,6 @@
 -- The book: what the jobs may rely on, told without cells, cards, colours or phases. It is fed each granted call, and
 -- whether settle found or made.
-use Rattle.std.specs.Prelude.{ℕ, zero, suc, Bool, true, false, cond, ◌≢◌, List, [], ◌∷◌, bytes_eq, Option, Some, None}
+use Rattle.std.specs.Prelude.{ℕ, zero, suc, Bool, true, false, if◌then◌else◌, ◌≢◌, List, [], ◌∷◌, bytes_eq, Option, Some, None}
 use Rattle.model.specs.Machine.{upd}
 use Rattle.model.specs.Calls.{text, Action, close, make, settle, find, load, store, copy, drop_hand, follow}
 use Rattle.model.specs.Calls.{Call, by, Answer, found}
@@ -18,13 +18,9 @@ pub record Book : Type 0 where
 abbrev pub new_book : Book
 new_book = record { holds = λ j h. 0; count = 0; width = λ r. 0; slot = λ r i. 0; name = λ r. None }
 
--- the book with other hands
-abbrev pub with_holds : Book → (ℕ → ℕ → ℕ) → Book
-with_holds b f = record b { holds = f }
-
 -- a record goes into a hand
 abbrev pub hold : Book → ℕ → ℕ → ℕ → Book
-hold b j h r = with_holds b (upd b.holds j (upd (b.holds j) h r))
+hold b j h r = record b { holds = upd b.holds j (upd (b.holds j) h r) }
 
 -- one more record, with empty slots
 abbrev pub new_record : Book → ℕ → Option (List ℕ) → Book
@@ -47,7 +43,7 @@ is_named (Some n) t = bytes_eq n t
 -- the latest of the first n records that bears a name, or 0
 unfoldable pub latest : (ℕ → Option (List ℕ)) → ℕ → List ℕ → ℕ
 latest names zero t = 0
-latest names (suc n) t = let earlier = latest names n t in cond (is_named (names (suc n)) t) (suc n) earlier
+latest names (suc n) t = let earlier = latest names n t in if is_named (names (suc n)) t then suc n else earlier
 
 -- the record that a name stands for: the latest that was made under it
 abbrev pub bearer : Book → List ℕ → ℕ
@@ -70,7 +66,7 @@ write_settle false b j t h w = hold (new_record b w (Some t)) j h (suc b.count)
 
 -- what a granted call of a job does to the book: those not named here leave it as it is
 abbrev pub write_job : Book → ℕ → Action → Answer → Book
-write_job b j close a = with_holds b (upd b.holds j (λ h. 0))
+write_job b j close a = record b { holds = upd b.holds j (λ h. 0) }
 write_job b j (make h w) a = hold (new_record b w None) j h (suc b.count)
 write_job b j (settle name h w) a = write_settle (is_found a) b j (text name) h w
 write_job b j (find name h) a = hold b j h (bearer b (text name))

@@ -1,7 +1,7 @@
 -- The store as an abstract machine: what it holds, and how that is read and changed.
 -- Cells, cards and jobs are tables: functions from numbers, counted from 1. Slots and hands are lists, counted from 1.
 -- Where a number names a cell, a card or a job, 0 names none.
-use Rattle.std.specs.Prelude.{ℕ, zero, suc, ◌-◌, Bool, true, false, cond, not, ◌&&◌, ◌||◌, List, [], ◌∷◌, get_or, set, bytes_eq, ◌==◌, Option, Some, None}
+use Rattle.std.specs.Prelude.{ℕ, zero, suc, ◌-◌, Bool, true, false, if◌then◌else◌, not, ◌&&◌, ◌||◌, List, [], ◌∷◌, get_or, set, bytes_eq, ◌==◌, Option, Some, None}
 use Rattle.std.specs.List.{list_any}
 use Rattle.model.specs.declared.Colour.{Colour}
 use Rattle.model.specs.declared.Colour.TheVariants.{White, Grey}
@@ -23,13 +23,13 @@ put l zero v = l
 put l (suc i) v = set l i v
 
 -- a table with one entry changed
-abbrev pub upd {ℓ} : {A : Type ℓ} → (ℕ → A) → ℕ → A → ℕ → A
-upd f i v j = cond (i == j) v (f j)
+abbrev pub upd : {A : Type 0} → (ℕ → A) → ℕ → A → ℕ → A
+upd f i v j = if i == j then v else f j
 
 -- the first of n places, from a on, that passes a test, or 0
 unfoldable pub first : (ℕ → Bool) → ℕ → ℕ → ℕ
 first test a zero = 0
-first test a (suc n) = let rest = first test (suc a) n in cond (test a) a rest
+first test a (suc n) = let rest = first test (suc a) n in if test a then a else rest
 
 -- a number, or another if it is 0
 abbrev pub or_else : ℕ → ℕ → ℕ
@@ -216,13 +216,9 @@ with_jobs s f last = record s { job = f; last_job = last }
 abbrev pub set_job : State → ℕ → Job → State
 set_job s j row = with_jobs s (upd s.job j row) s.last_job
 
--- a job with other hands
-abbrev pub with_hands : Job → List ℕ → Job
-with_hands row l = record row { hands = l }
-
 -- ... with one hand of one job changed
 abbrev pub set_hand : State → ℕ → ℕ → ℕ → State
-set_hand s j h v = set_job s j (with_hands (s.job j) (put (s.job j).hands h v))
+set_hand s j h v = set_job s j (record (s.job j) { hands = put (s.job j).hands h v })
 
 -- ... in a phase, at a cursor, in a round
 abbrev pub at_phase : State → Phase → ℕ → ℕ → State
