@@ -1,6 +1,6 @@
 -- What a call may change of kept records, names and marks: nothing becomes kept that was not; names stay on file but at
 -- the commit; and whatever becomes marked is held, or a held record or a marked one leads to it.
-use Rattle.std.proofs.Common.{◌≡◌, ℕ, zero, suc, ◌≤◌, Bool, true, false, not, T, ◌≢◌, ◌⊎◌, List, length, sym, refl, ap, ◌∙◌, subst, inl, inr, arith, eq-eqb, Some, None}
+use Rattle.std.proofs.Common.{◌≡◌, ℕ, zero, suc, ◌≤◌, Bool, true, false, not, ◌≢◌, ◌⊎◌, List, length, sym, refl, ap, ◌∙◌, subst, inl, inr, arith, eq-eqb, Some, None}
 use Rattle.std.proofs.lemmas.Bool.{cond_both}
 use Rattle.model.specs.declared.Colour.TheVariants.{White}
 use Rattle.model.specs.declared.Phase.TheVariants.{Cleaning, Scanning, Tracing}
@@ -180,7 +180,7 @@ module _ (s : State) (b : Book) (place : ℕ → ℕ) (inv : Inv s b place) wher
         off z = ap not (eq-eqb _ 0 z)
 
         go : (k : ℕ) → filed s (text name) ≡ k → Changes (by j (settle name h w)) s (settle_on k s j (text name) h w pick).after
-        go zero q = settle_change _ pick j h w (text name) (right (subst T (sym (or_second _ _ (off q) cell)) tt)).vacant
+        go zero q = settle_change _ pick j h w (text name) (right (or_second _ _ (off q) cell)).vacant
             (hand_range h hs) (not_zero _ (or_second _ _ (off q) card))
         go (suc k) q = found_change _ j h _ (hand_range h hs)
 
@@ -189,7 +189,7 @@ module _ (s : State) (b : Book) (place : ℕ → ℕ) (inv : Inv s b place) wher
     job_changes j a p (rows_alone rows e) = subst (λ (x : State). Changes (by j a) s x) (sym e)
         (rows_change _ s rows s.last_job)
     job_changes j a p nods = nod_change _ j
-    job_changes j a p (makes h w) = make_change _ pick j h w (right (subst T (sym p.1.1.1.0) tt)).vacant
+    job_changes j a p (makes h w) = make_change _ pick j h w (right p.1.1.1.0).vacant
         (hand_range h p.0)
     job_changes j a p (settles_name name h w) = settle_changes j name h w p
     job_changes j a p (finds name h) = found_change _ j h _ (hand_range h p.1.0)

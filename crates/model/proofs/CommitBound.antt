@@ -1,6 +1,7 @@
 -- The commit comes within N × (2N + 1) trace steps. While tracing, each round but the last makes the heap lighter by at
 -- least 1, and it weighs 2N at most.
-use Rattle.std.proofs.Common.{◌≡◌, ℕ, zero, suc, ◌+◌, ◌*◌, ◌<◌, ◌≤◌, cond, T, ltb, sym, refl, ap, subst, mul-le-mul_right, arith, Some, is_ok}
+use Rattle.std.proofs.Common.{◌≡◌, ℕ, zero, suc, ◌+◌, ◌*◌, ◌<◌, ◌≤◌, cond, T, ltb, sym, refl, ap, subst, mul-le-mul_right, arith, Some, is_ok, IsTrue}
+use Rattle.std.specs.Bool.{passes}
 use Rattle.std.proofs.lemmas.Bool.{cond_both}
 use Rattle.model.specs.declared.Colour.TheVariants.{Black, Grey}
 use Rattle.model.specs.declared.Phase.{Phase}
@@ -176,7 +177,7 @@ run_bounds (called {x = y} run c pick right) = decided
     (λ e. run_bounds run) (call_bounds y (trace_steps run) pick (run_sound run) (run_bounds run) c)
 
 pub commit_bound : (x : World) (run : Run x) →
-    (trace_steps run ≤ trace_limit x.state.size) × (T (is_tracing x.state.phase) →
+    (trace_steps run ≤ trace_limit x.state.size) × (IsTrue (is_tracing x.state.phase) →
     trace_steps run < trace_limit x.state.size)
-commit_bound x run = bounded x.state.phase x.state.size x.state.rounds x.state.cursor (trace_steps run) _
-    (run_bounds run)
+commit_bound x run = let b = bounded x.state.phase x.state.size x.state.rounds x.state.cursor (trace_steps run) _ (run_bounds run) in
+    (b.0, λ e. b.1 (passes _ e))

@@ -1,13 +1,13 @@
 -- Every call keeps the invariant, and so does every run.
-use Rattle.std.proofs.Common.{◌≡◌, ℕ, zero, suc, true, false, cond, not, T, ltb, sym, refl, ap, subst, arith, ltb-false, ltb-true, eq-eqb}
+use Rattle.std.proofs.Common.{◌≡◌, ℕ, zero, suc, false, cond, not, ltb, refl, ap, subst, arith, ltb-false, ltb-true, eq-eqb}
 use Rattle.std.proofs.lemmas.Bool.{cond_both}
 use Rattle.model.specs.declared.JobState.TheVariants.{Parked, Running}
 use Rattle.model.specs.declared.Phase.TheVariants.{Normal}
 use Rattle.model.specs.Book.{Book}
 use Rattle.model.specs.Calls.{Action, Call, Spelling, begin, by, close, copy, drop_hand, find, follow, load, make, nod, open_job, park, same, settle, spelling_of, step, store, text, wake}
 use Rattle.model.specs.Machine.{State, filed, upd}
-use Rattle.model.specs.Runs.{FreeCell, Picks, Run, Through, World, granted, more, new_world, next, now, standing, start, called}
-use Rattle.model.specs.Tables.{checks, effect, is_on_file, job_checks, job_effect, room, settle_on, settles}
+use Rattle.model.specs.Runs.{Picks, Run, Through, World, granted, more, new_world, next, now, standing, start, called}
+use Rattle.model.specs.Tables.{checks, effect, is_on_file, job_checks, job_effect, settle_on, settles}
 use Rattle.model.proofs.CardsRead.{filed_live}
 use Rattle.model.proofs.Colours.{clash}
 use Rattle.model.proofs.Granted.{Passed, hand_range, next_cases, not_zero, or_second}
@@ -49,9 +49,6 @@ module _ (x : World) (pick : ℕ) (inv : Sound x) (right : Picks x.state pick) w
   abbrev b : Book
   b = x.book
 
-  picked : room s ≡ true → FreeCell s pick
-  picked e = right (subst T (sym e) tt)
-
   settle_keeps : (j : ℕ) (name : Spelling) (h w : ℕ) → Passed (job_checks s j (settle name h w)) →
       After x j (settle name h w) pick
   settle_keeps j name h w (settles, (hs, (width, (run, (cell, (card, rest)))))) = go (filed s (text name)) refl
@@ -63,7 +60,7 @@ module _ (x : World) (pick : ℕ) (inv : Sound x) (right : Picks x.state pick) w
       go : (k : ℕ) → filed s (text name) ≡ k →
           Sound (granted x (by j (settle name h w)) pick (settle_on k s j (text name) h w pick))
       go zero q = new_place s b x.place _ _ b.count pick
-          (settle_makes s b x.place inv pick w (picked (or_second _ _ (off q) cell)) j (text name) h run (hand_range h hs) q
+          (settle_makes s b x.place inv pick w (right (or_second _ _ (off q) cell)) j (text name) h run (hand_range h hs) q
           (not_zero _ (or_second _ _ (off q) card)))
       go (suc k) q = let l = filed_live s (text name) (λ z. omega arith) in unfreed s b x.place _ _ b.count pick
           (found_keeps s b x.place inv j h (suc k) (text name) run (hand_range h hs)
@@ -77,7 +74,7 @@ module _ (x : World) (pick : ℕ) (inv : Sound x) (right : Picks x.state pick) w
       (status_keeps s b x.place inv j Running refl (parked_open _ p.0))
   job_call_keeps j nod p = unfreed s b x.place _ _ b.count pick (nod_keeps s b x.place j (running_open _ p.0) inv)
   job_call_keeps j (make h w) p = new_place s b x.place _ _ b.count pick
-      (make_keeps s b x.place inv pick w (picked p.1.1.1.0) j h p)
+      (make_keeps s b x.place inv pick w (right p.1.1.1.0) j h p)
   job_call_keeps j (settle name h w) p = settle_keeps j name h w p
   job_call_keeps j (find name h) p = unfreed s b x.place _ _ b.count pick (find_keeps s b x.place inv j name h p)
   job_call_keeps j (load g i h) p = unfreed s b x.place _ _ b.count pick (load_keeps s b x.place inv j g i h p)

@@ -1,7 +1,7 @@
 -- The store as an abstract machine: what it holds, and how that is read and changed.
 -- Cells, cards and jobs are tables: functions from numbers, counted from 1. Slots and hands are lists, counted from 1.
 -- Where a number names a cell, a card or a job, 0 names none.
-use Rattle.std.specs.Prelude.{ℕ, zero, suc, ◌-◌, Bool, true, false, if◌then◌else◌, not, ◌&&◌, ◌||◌, List, [], ◌∷◌, get_or, set, bytes_eq, ◌==◌, Option, Some, None}
+use Rattle.std.specs.Prelude.{ℕ, zero, suc, ◌-◌, Bool, true, false, if◌then◌else◌, not, ◌&&◌, ◌||◌, List, [], ◌∷◌, slice_index_or, slice_set, bytes_eq, ◌==◌, Option, Some, None}
 use Rattle.std.specs.List.{list_any}
 use Rattle.model.specs.declared.Colour.{Colour}
 use Rattle.model.specs.declared.Colour.TheVariants.{White, Grey}
@@ -15,12 +15,12 @@ use Rattle.model.specs.declared.Phase.TheVariants.{Normal, Arming, Scanning, Tra
 -- item i of a list, counted from 1; 0 outside
 abbrev pub at : List ℕ → ℕ → ℕ
 at l zero = 0
-at l (suc i) = get_or l i 0
+at l (suc i) = slice_index_or l i 0
 
 -- a list with item i, counted from 1, changed
 abbrev pub put : List ℕ → ℕ → ℕ → List ℕ
 put l zero v = l
-put l (suc i) v = set l i v
+put l (suc i) v = slice_set l i v
 
 -- a table with one entry changed
 abbrev pub upd : {A : Type 0} → (ℕ → A) → ℕ → A → ℕ → A

@@ -1,5 +1,5 @@
 -- The promise: what holds after every list of calls on a store that began new, over every heap.
-use Rattle.std.specs.Prelude.{◌≡◌, ℕ, ◌+◌, ◌*◌, ◌<◌, ◌≤◌, T, ◌≢◌, List, length, Err, Option, Some, None}
+use Rattle.std.specs.Prelude.{◌≡◌, ℕ, ◌+◌, ◌*◌, ◌<◌, ◌≤◌, ◌≢◌, IsTrue, List, length, Err, Option, Some, None}
 use Rattle.refusal.specs.declared.Refusal.{Refusal}
 use Rattle.model.specs.declared.Phase.TheVariants.{Normal}
 use Rattle.model.specs.Machine.{at, colour, slots, card_of, Card, is_tracing, State, hand, filed}
@@ -70,7 +70,7 @@ pub record Promise {x : World} (run : Run x) : Type 0 where
       Picks y.state last → Commits y step last → Later (next y step last) x → x.state.phase ≡ Normal → x.place r ≡ 0
   -- the commit comes within N × (2N + 1) trace steps: no cycle has more, and while tracing goes on there were fewer
   pub bounded : trace_steps run ≤ trace_limit x.state.size
-  pub commits_soon : T (is_tracing x.state.phase) → trace_steps run < trace_limit x.state.size
+  pub commits_soon : IsTrue (is_tracing x.state.phase) → trace_steps run < trace_limit x.state.size
 
 -- THE THEOREM
 

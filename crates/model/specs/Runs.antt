@@ -1,5 +1,5 @@
 -- Runs: every list of calls on a store that began new, over every heap, with the book beside it.
-use Rattle.std.specs.Prelude.{◌≡◌, ℕ, suc, ◌≤◌, if◌then◌else◌, T, ◌≢◌, List, Ok, Err, Result, is_ok, IsOk, nat_lt, None}
+use Rattle.std.specs.Prelude.{◌≡◌, ℕ, suc, ◌≤◌, if◌then◌else◌, ◌≢◌, List, Ok, Err, Result, is_ok, IsOk, IsTrue, nat_lt, None}
 use Rattle.refusal.specs.declared.Refusal.{Refusal}
 use Rattle.model.specs.declared.Phase.{Phase}
 use Rattle.model.specs.declared.Phase.TheVariants.{Tracing, Cleaning}
@@ -51,7 +51,7 @@ pub record FreeCell (s : State) (c : ℕ) : Type 0 where
 
 -- the heap's pick is one of its free cells, if it has any: nothing else is known of it
 abbrev pub Picks : State → ℕ → Type 0
-Picks s pick = T (room s) → FreeCell s pick
+Picks s pick = IsTrue (room s) → FreeCell s pick
 
 -- the runs: any calls, in any order, granted or refused
 pub data Run : World → Type 0 where

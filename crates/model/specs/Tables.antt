@@ -4,7 +4,6 @@ use Rattle.std.specs.Prelude.{ℕ, zero, suc, Bool, true, false, if◌then◌els
 use Rattle.std.specs.Result.{result_unwrap_or}
 use Rattle.refusal.specs.declared.Reason.TheVariants.{NoSuchHand, WidthTooLarge, WalkTooLong, BufferTooShort, JobNotOpen, AllJobsOpen, NothingHeld, NoSuchSlot, NoFreeCell, NoVacantCard, NotOnFile, CycleRunning, NoCycle, NodsOwed, NoNodOwed, NoCells}
 use Rattle.refusal.specs.declared.Refusal.{Refusal}
-use Rattle.model.specs.declared.JobState.{JobState}
 use Rattle.model.specs.declared.JobState.TheVariants.{Running, Parked}
 use Rattle.model.specs.declared.Phase.{Phase}
 use Rattle.model.specs.declared.Phase.TheVariants.{Normal, Arming, Scanning, Tracing, Repeat, Cleaning}
