@@ -8,7 +8,7 @@ use Rattle.model.specs.declared.Phase.TheVariants.{Tracing}
 use Rattle.model.specs.Book.{Book}
 use Rattle.model.specs.Cycle.{grey_if, greyed, repeating}
 use Rattle.model.specs.Machine.{Cell, State, colour, is_white, upd}
-use Rattle.model.proofs.Colours.{clash, grey_white, white_is, white_not}
+use Rattle.model.proofs.Colours.{grey_white, white_is, white_not}
 use Rattle.model.proofs.GreyingKeeps.{AllGreyer, Greys, Repeats, Turn, grey_one, greyed_grey, greyer_greyed, greyer_refl, greying_keeps, greys_refl, marked_one, stays, turns}
 use Rattle.model.proofs.Invariant.{ColourOk, Greying, Inv, Marked, Spared}
 use Rattle.model.proofs.PhaseCases.{greying_cases}
@@ -18,7 +18,7 @@ greying_spared : (p : Phase) (cur d : ℕ) → Greying p → Spared p cur d
 greying_spared p cur d = greying_cases (λ q. Spared q cur d) tt tt tt tt p
 
 greying_grey : (p : Phase) (cur d : ℕ) → Greying p → ColourOk (repeating p) cur d (Some Grey)
-greying_grey p cur d = greying_cases (λ q. ColourOk (repeating q) cur d (Some Grey)) (λ z. clash cc) tt tt tt p
+greying_grey p cur d = greying_cases (λ q. ColourOk (repeating q) cur d (Some Grey)) (λ z. cc) tt tt tt p
 
 greying_colour : (p : Phase) (cur d : ℕ) (l : Option Colour) → Greying p → ColourOk p cur d l → ColourOk (repeating p) cur d l
 greying_colour p cur d l = greying_cases (λ q. ColourOk q cur d l → ColourOk (repeating q) cur d l) (λ h. h) (λ h. tt) (λ h. tt)
@@ -41,7 +41,7 @@ greyer_if false f c = λ d. greyer_refl (f d)
 
 pub marked_if : (t : Bool) (f : ℕ → Cell) (c : ℕ) → t ≡ true → colour (f c) ≢ None → Marked (colour (cells_if t f c c))
 marked_if true f c e n = marked_one f c n
-marked_if false f c e n = clash cc
+marked_if false f c e n = cc
 
 -- what is grey or black was so, or is the cell greyed
 pub marked_was : (t : Bool) (f : ℕ → Cell) (c d : ℕ) → Marked (colour (cells_if t f c d)) → Marked (colour (f d)) ⊎ (c ≡ d)

@@ -1,5 +1,5 @@
 -- Colours and the tests on them.
-use Rattle.std.proofs.Common.{◌≡◌, ℕ, true, false, ◌≢◌, ◌⊎◌, sym, refl, ◌∙◌, inl, inr, arith, Option, Some, None}
+use Rattle.std.proofs.Common.{◌≡◌, ℕ, true, false, ◌≢◌, ◌⊎◌, sym, refl, ◌∙◌, inl, inr, Option, Some, None}
 use Rattle.model.specs.declared.Colour.{Colour}
 use Rattle.model.specs.declared.Colour.TheVariants.{Black, Grey, White}
 use Rattle.model.specs.declared.Phase.{Phase}
@@ -7,24 +7,18 @@ use Rattle.model.specs.Machine.{Cell, at, colour, free, is_free, is_grey, is_whi
 use Rattle.model.proofs.Invariant.{Kept, Marked}
 use Rattle.model.proofs.TableLaws.{at_nil}
 
--- constructors that differ: `cc` finds the clash
-pub clash : {A : Type 0} → ◌≡◌ {A = ℕ} 0 1 → A
-clash e = absurd (omega arith)
-
 pub some_none : (c : Colour) → Some c ≢ None
-some_none c e = clash cc
+some_none c e = cc
 
 pub free_white : {l : Option Colour} → l ≡ None → l ≡ Some White → ⊥
-free_white a b = clash cc
+free_white a b = cc
 
 pub grey_white : {l : Option Colour} → l ≡ Some Grey → l ≡ Some White → ⊥
-grey_white a b = clash cc
+grey_white a b = cc
 
 pub black_or : (l : Option Colour) → (l ≡ Some Black) ⊎ (l ≢ Some Black)
-black_or None = inr (λ e. clash cc)
-black_or (Some White) = inr (λ e. clash cc)
-black_or (Some Grey) = inr (λ e. clash cc)
 black_or (Some Black) = inl refl
+black_or _ = inr (λ e. cc)
 
 pub free_slots : (x : Cell) → colour x ≡ None → (i : ℕ) → at (slots x) i ≡ 0
 free_slots free e i = at_nil i
@@ -36,41 +30,31 @@ marked_used (used c k l) m e = some_none c e
 
 pub free_is : (x : Cell) → is_free x ≡ true → colour x ≡ None
 free_is free e = refl
-free_is (used c k l) e = clash cc
+free_is (used c k l) e = cc
 
 pub free_not : (x : Cell) → is_free x ≡ false → colour x ≢ None
-free_not free e = clash cc
+free_not free e = cc
 free_not (used c k l) e = some_none c
 
 pub white_is : (x : Cell) → is_white x ≡ true → colour x ≡ Some White
-white_is free e = clash cc
 white_is (used White k l) e = refl
-white_is (used Grey k l) e = clash cc
-white_is (used Black k l) e = clash cc
+white_is _ e = cc
 
 pub white_not : (x : Cell) → is_white x ≡ false → colour x ≢ Some White
-white_not free e z = clash cc
-white_not (used White k l) e z = clash cc
-white_not (used Grey k l) e z = clash cc
-white_not (used Black k l) e z = clash cc
+white_not (used White k l) e z = cc
+white_not _ e z = cc
 
 pub is_white_at : (x : Cell) → colour x ≡ Some White → is_white x ≡ true
-is_white_at free z = clash cc
 is_white_at (used White k l) z = refl
-is_white_at (used Grey k l) z = clash cc
-is_white_at (used Black k l) z = clash cc
+is_white_at _ z = cc
 
 pub grey_is : (x : Cell) → is_grey x ≡ true → colour x ≡ Some Grey
-grey_is free e = clash cc
-grey_is (used White k l) e = clash cc
 grey_is (used Grey k l) e = refl
-grey_is (used Black k l) e = clash cc
+grey_is _ e = cc
 
 pub grey_not : (x : Cell) → is_grey x ≡ false → colour x ≢ Some Grey
-grey_not free e z = clash cc
-grey_not (used White k l) e z = clash cc
-grey_not (used Grey k l) e z = clash cc
-grey_not (used Black k l) e z = clash cc
+grey_not (used Grey k l) e z = cc
+grey_not _ e z = cc
 
 pub kept_colour : (p : Phase) (cur d : ℕ) (x y : Cell) → colour y ≡ colour x → Kept p cur d x → Kept p cur d y
 kept_colour p cur d x y e h = record { in_use = λ z. h.in_use (sym e ∙ z); spared = λ z. h.spared (sym e ∙ z) }

@@ -13,7 +13,7 @@ use Rattle.model.specs.Promise.{trace_limit}
 use Rattle.model.specs.Runs.{Run, World, count_call, next, next_by, start, called, trace_steps}
 use Rattle.model.specs.Tables.{checks, effect, outcome, vacant_job}
 use Rattle.model.proofs.CallsByEffect.{effect_of}
-use Rattle.model.proofs.Colours.{clash, grey_is}
+use Rattle.model.proofs.Colours.{grey_is}
 use Rattle.model.proofs.Granted.{Passed, decided, not_zero}
 use Rattle.model.proofs.GreyingKeeps.{Greyer, Repeats, grey_list, stays, turns, used_greyer}
 use Rattle.model.proofs.Invariant.{Sound}
@@ -25,14 +25,11 @@ use Rattle.model.proofs.Weight.{Lighter, Steady, greyer_weight, steady_job, stea
 
 -- n cells, round r, cursor at cur, t trace steps so far, heap of weight w
 abbrev Bounded : Phase → ℕ → ℕ → ℕ → ℕ → ℕ → Type 0
-Bounded Normal n r cur t w = t ≤ trace_limit n
 Bounded Arming n r cur t w = (t ≡ 0) × (1 ≤ n)
 Bounded Scanning n r cur t w = (t ≡ 0) × (1 ≤ n)
 Bounded Tracing n r cur t w = (1 ≤ cur) × (cur ≤ n) × (t + n + 1 ≡ r * n + cur) × (w + r ≤ 2 * n + 1)
 Bounded Repeat n r cur t w = (1 ≤ cur) × (cur ≤ n) × (t + n + 1 ≡ r * n + cur) × (w + r ≤ 2 * n)
-Bounded Cleaning n r cur t w = t ≤ trace_limit n
-Bounded Parting n r cur t w = t ≤ trace_limit n
-Bounded Sweeping n r cur t w = t ≤ trace_limit n
+Bounded _ n r cur t w = t ≤ trace_limit n
 
 abbrev InBounds : State → ℕ → Type 0
 InBounds s t = Bounded s.phase s.size s.rounds s.cursor t (total s.cell s.size)
@@ -41,25 +38,17 @@ below_limit : (n r cur t : ℕ) → cur ≤ n → t + n + 1 ≡ r * n + cur → 
 below_limit n r cur t hi e small = let q = mul-le-mul_right n small in omega arith
 
 bounded : (p : Phase) (n r cur t w : ℕ) → Bounded p n r cur t w → (t ≤ trace_limit n) × (T (is_tracing p) → t < trace_limit n)
-bounded Normal n r cur t w b = (b, λ z. absurd z)
 bounded Arming n r cur t w b = (omega arith, λ z. absurd z)
 bounded Scanning n r cur t w b = (omega arith, λ z. absurd z)
 bounded Tracing n r cur t w b = let q = below_limit n r cur t b.1 b.2 (omega arith) in (omega arith, λ z. q)
 bounded Repeat n r cur t w b = let q = below_limit n r cur t b.1 b.2 (omega arith) in (omega arith, λ z. q)
-bounded Cleaning n r cur t w b = (b, λ z. absurd z)
-bounded Parting n r cur t w b = (b, λ z. absurd z)
-bounded Sweeping n r cur t w b = (b, λ z. absurd z)
+bounded _ n r cur t w b = (b, λ z. absurd z)
 
 -- a call of a job
 lighter_bounded : (p : Phase) (n r cur t w w' : ℕ) → (T (is_tracing p) → w' ≤ w) → Bounded p n r cur t w → Bounded p n r cur t w'
-lighter_bounded Normal n r cur t w w' le b = b
-lighter_bounded Arming n r cur t w w' le b = b
-lighter_bounded Scanning n r cur t w w' le b = b
 lighter_bounded Tracing n r cur t w w' le b = let q = le tt in (b.0, b.1, b.2, omega arith)
 lighter_bounded Repeat n r cur t w w' le b = let q = le tt in (b.0, b.1, b.2, omega arith)
-lighter_bounded Cleaning n r cur t w w' le b = b
-lighter_bounded Parting n r cur t w w' le b = b
-lighter_bounded Sweeping n r cur t w w' le b = b
+lighter_bounded _ n r cur t w w' le b = b
 
 repeats_bounded : {p q : Phase} (n r cur t w w' : ℕ) → Repeats p q → (T (is_tracing p) → w' ≤ w) →
     (p ≡ Tracing → q ≡ Repeat → w' < w) → Bounded p n r cur t w → Bounded q n r cur t w'
@@ -86,7 +75,7 @@ module _ (s : State) (t : ℕ) where
       greyer = grey_list s.cell (slots (s.cell s.cursor))
 
       is_black : colour (painted Black (g s.cursor)) ≡ Some Black
-      is_black = black_colour (g s.cursor) (used_greyer (greyer s.cursor) (λ z. clash cc))
+      is_black = black_colour (g s.cursor) (used_greyer (greyer s.cursor) (λ z. cc))
 
       le : Lighter s.cell (upd g s.cursor (painted Black (g s.cursor)))
       le d = upd_elim (λ y. weight (colour y) ≤ weight (colour (s.cell d))) g s.cursor d (painted Black (g s.cursor))

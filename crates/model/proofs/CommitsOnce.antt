@@ -2,7 +2,7 @@
 use Rattle.std.proofs.Common.{◌≡◌, ℕ, zero, suc, T, ltb, ◌≢◌, List, [], ◌∷◌, sym, refl, subst}
 use Rattle.std.proofs.lemmas.Bool.{cond_both}
 use Rattle.model.specs.declared.Phase.{Phase}
-use Rattle.model.specs.declared.Phase.TheVariants.{Arming, Cleaning, Normal, Parting, Repeat, Scanning, Sweeping, Tracing}
+use Rattle.model.specs.declared.Phase.TheVariants.{Cleaning, Normal, Parting, Sweeping}
 use Rattle.model.specs.Calls.{Call, begin, by, open_job, step}
 use Rattle.model.specs.Cycle.{all_owe, clean_on, cleared, nod_or, onward, owing, step_from, swept}
 use Rattle.model.specs.Machine.{State, among, at_phase, is_parked, is_white}
@@ -28,24 +28,13 @@ repeats_late {p} stays t = go p t
   where
     go : (p : Phase) → T (among late p) → T (among late_or_normal p)
     go Normal t = tt
-    go Arming t = t
-    go Scanning t = t
-    go Tracing t = t
-    go Repeat t = t
-    go Cleaning t = tt
-    go Parting t = tt
-    go Sweeping t = tt
+    go _ t = t
 repeats_late turns t = absurd t
 
 abbrev LateOrNormal : State → Type 0
 LateOrNormal s = T (among late_or_normal s.phase)
 
 step_late : (s : State) (p : Phase) → s.phase ≡ p → T (among late p) → LateOrNormal (step_from p s)
-step_late s Normal e t = absurd t
-step_late s Arming e t = absurd t
-step_late s Scanning e t = absurd t
-step_late s Tracing e t = absurd t
-step_late s Repeat e t = absurd t
 step_late s Cleaning e t = cond_both (is_white (s.cell (s.card s.cursor).record_at)) (cleared s) s
     (λ x. LateOrNormal (clean_on x)) (λ q. go (cleared s) e) (λ q. go s e)
   where
@@ -59,6 +48,7 @@ step_late s Parting e t = go (owing is_parked s)
     go (suc k) = repeats_late (steady_nod s (suc k)).repeats (subst (λ (p : Phase). T (among late p)) (sym e) tt)
 step_late s Sweeping e t = cond_both (ltb s.cursor s.size) (onward (swept s)) (at_phase (swept s) Normal 0 s.rounds)
     LateOrNormal (λ q. subst (λ (p : Phase). T (among late_or_normal p)) (sym e) tt) (λ q. tt)
+step_late s _ e t = absurd t
 
 call_late : (x : World) (pick : ℕ) → Sound x → T (among late x.state.phase) → (c : Call) → Passed (checks x.state c) →
     LateOrNormal (effect x.state c pick).after
@@ -71,13 +61,7 @@ call_late x pick inv t step p = step_late x.state x.state.phase refl t
 -- what is late and not NORMAL is late
 still_late : (p : Phase) → T (among late_or_normal p) → p ≢ Normal → T (among late p)
 still_late Normal t n = absurd (n refl)
-still_late Arming t n = t
-still_late Scanning t n = t
-still_late Tracing t n = t
-still_late Repeat t n = t
-still_late Cleaning t n = tt
-still_late Parting t n = tt
-still_late Sweeping t n = tt
+still_late _ t n = t
 
 through_late : {x y : World} → Through InCycle x y → Sound x → T (among late x.state.phase) →
     T (among late y.state.phase)

@@ -8,7 +8,6 @@ use Rattle.model.specs.Calls.{Call, Check, Grant, decide}
 use Rattle.model.specs.Machine.{Cell, slots}
 use Rattle.model.specs.Runs.{Granted, World, granted, next, next_by}
 use Rattle.model.specs.Tables.{checks, effect, hand_ok, met, outcome, slot_ok}
-use Rattle.model.proofs.Colours.{clash}
 
 abbrev pub Passed : List Check → Type 0
 Passed [] = Unit {0}
@@ -33,7 +32,7 @@ pub granted_next : (x : World) (c : Call) (pick : ℕ) → Granted x c pick →
 unfolding next outcome
 granted_next x c pick = decided (λ o. is_ok o ≡ true →
     Passed (checks x.state c) × (next_by x c pick o ≡ granted x c pick (effect x.state c pick)))
-    (checks x.state c) (effect x.state c pick) (λ e q. clash cc) (λ p q. (p, refl))
+    (checks x.state c) (effect x.state c pick) (λ e q. cc) (λ p q. (p, refl))
 
 -- what the tests of conditions mean
 pub hand_range : (h : ℕ) → hand_ok h ≡ true → (1 ≤ h) × (h ≤ 8)
@@ -47,5 +46,5 @@ pub not_zero : (n : ℕ) → not (eqb n 0) ≡ true → n ≢ 0
 not_zero n e = eqb-false n 0 (not-true (eqb n 0) e)
 
 pub or_second : (a b : Bool) → a ≡ false → (a || b) ≡ true → b ≡ true
-or_second true b e h = clash cc
+or_second true b e h = cc
 or_second false b e h = h

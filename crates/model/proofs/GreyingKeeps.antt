@@ -1,5 +1,5 @@
 -- Greying keeps the invariant, whatever spared records become grey.
-use Rattle.std.proofs.Common.{◌≡◌, ℕ, zero, suc, Bool, ◌≢◌, ◌⊎◌, List, [], ◌∷◌, sym, refl, ap, ◌∙◌, subst, inl, inr, arith, Option, Some, None}
+use Rattle.std.proofs.Common.{◌≡◌, ℕ, zero, suc, Bool, ◌≢◌, ◌⊎◌, List, [], ◌∷◌, sym, refl, ap, ◌∙◌, subst, inl, inr, Option, Some, None}
 use Rattle.model.specs.declared.Colour.{Colour}
 use Rattle.model.specs.declared.Colour.TheVariants.{Black, Grey, White}
 use Rattle.model.specs.declared.Phase.{Phase}
@@ -39,10 +39,8 @@ greyer_trans {x} {y} {z} a b = record {
     go (inr p) (inr q) = inr (p.0, q.1)
 
 pub greyer_greyed : (x : Cell) → Greyer x (greyed x)
-greyer_greyed free = greyer_refl free
 greyer_greyed (used White k l) = record { same_slots = refl; same_card = refl; how = inr (refl, refl) }
-greyer_greyed (used Grey k l) = greyer_refl _
-greyer_greyed (used Black k l) = greyer_refl _
+greyer_greyed _ = greyer_refl _
 
 abbrev pub AllGreyer : (ℕ → Cell) → (ℕ → Cell) → Type 0
 AllGreyer f g = (d : ℕ) → Greyer (f d) (g d)
@@ -68,14 +66,14 @@ used_greyer {x} {y} a n v = go a.how
   where
     go : Turn (colour x) (colour y) → ⊥
     go (inl e) = n (sym e ∙ v)
-    go (inr e) = let z : ◌≡◌ {A = ℕ} 0 1 = cc in omega arith
+    go (inr e) = cc
 
 pub unused_greyer : {x y : Cell} → Greyer x y → colour y ≢ None → colour x ≢ None
 unused_greyer {x} {y} a n v = go a.how
   where
     go : Turn (colour x) (colour y) → ⊥
     go (inl e) = n (e ∙ v)
-    go (inr e) = let z : ◌≡◌ {A = ℕ} 0 1 = cc in omega arith
+    go (inr e) = cc
 
 black_greyer : {x y : Cell} → Greyer x y → colour y ≡ Some Black → colour x ≡ Some Black
 black_greyer {x} {y} a v = go a.how
@@ -95,14 +93,11 @@ none_greyer {x} {y} a v = go a.how
 marked_greyed : (x : Cell) → colour x ≢ None → Marked (colour (greyed x))
 marked_greyed free n = absurd (n refl)
 marked_greyed (used White k l) n = tt
-marked_greyed (used Grey k l) n = tt
-marked_greyed (used Black k l) n = tt
+marked_greyed _ n = tt
 
 pub greyed_grey : (x : Cell) → colour x ≡ Some White → colour (greyed x) ≡ Some Grey
-greyed_grey free e = cc
 greyed_grey (used White k l) e = refl
-greyed_grey (used Grey k l) e = refl
-greyed_grey (used Black k l) e = cc
+greyed_grey _ e = cc
 
 pub marked_one : (f : ℕ → Cell) (c : ℕ) → colour (f c) ≢ None → Marked (colour (upd f c (greyed (f c)) c))
 marked_one f c n = upd_elim (λ y. Marked (colour y)) f c c (greyed (f c)) (λ e. marked_greyed (f c) n) (λ q. absurd (q refl))

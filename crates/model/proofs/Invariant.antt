@@ -14,14 +14,10 @@ use Rattle.model.specs.Runs.{World}
 
 -- whether a white record is spared, that is, not doomed
 abbrev pub Spared : Phase → ℕ → ℕ → Type 0
-Spared Normal cur c = Unit {0}
-Spared Arming cur c = Unit {0}
-Spared Scanning cur c = Unit {0}
-Spared Tracing cur c = Unit {0}
-Spared Repeat cur c = Unit {0}
 Spared Cleaning cur c = ⊥
 Spared Parting cur c = ⊥
 Spared Sweeping cur c = c < cur
+Spared _ cur c = Unit {0}
 
 -- a kept record
 pub record Kept (p : Phase) (cur c : ℕ) (x : Cell) : Type 0 where
@@ -30,10 +26,9 @@ pub record Kept (p : Phase) (cur c : ℕ) (x : Cell) : Type 0 where
 
 -- a marked record is grey or black
 abbrev pub Marked : Option Colour → Type 0
-Marked None = ⊥
-Marked (Some White) = ⊥
 Marked (Some Grey) = Unit {0}
 Marked (Some Black) = Unit {0}
+Marked _ = ⊥
 
 -- a protected record will be marked before the commit: it is marked already, or a protected record that is not black
 -- leads to it (the weak tricolour invariant, with grey-protected records)
@@ -53,12 +48,11 @@ Greying p = T (among (Arming ∷ Scanning ∷ Tracing ∷ Repeat ∷ []) p)
 abbrev pub ColourOk : Phase → ℕ → ℕ → Option Colour → Type 0
 ColourOk Normal cur c l = (l ≢ Some Grey) × (l ≢ Some Black)
 ColourOk Arming cur c l = l ≢ Some Black
-ColourOk Scanning cur c l = Unit {0}
 ColourOk Tracing cur c l = c < cur → l ≢ Some Grey
-ColourOk Repeat cur c l = Unit {0}
 ColourOk Cleaning cur c l = l ≢ Some Grey
 ColourOk Parting cur c l = l ≢ Some Grey
 ColourOk Sweeping cur c l = (l ≢ Some Grey) × (c < cur → l ≢ Some Black)
+ColourOk _ cur c l = Unit {0}
 
 -- which flags an open job may have: armed, and owing a nod
 abbrev pub Flags : Phase → Bool → Bool → Type 0

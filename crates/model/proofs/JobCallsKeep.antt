@@ -7,12 +7,12 @@ use Rattle.std.proofs.lemmas.Bool.{cond_both}
 use Rattle.refusal.specs.declared.Refusal.{Refusal}
 use Rattle.model.specs.declared.Colour.TheVariants.{Black}
 use Rattle.model.specs.declared.JobState.{JobState}
-use Rattle.model.specs.declared.JobState.TheVariants.{Closed, Parked, Running}
+use Rattle.model.specs.declared.JobState.TheVariants.{Closed}
 use Rattle.model.specs.Book.{Book, hold, led}
 use Rattle.model.specs.Calls.{copy, drop_hand, follow, load}
 use Rattle.model.specs.Machine.{Job, State, at, closed_row, colour, empty_hands, hand, held, is_open, is_parked, set_hand, set_job, slots, upd, with_jobs}
 use Rattle.model.specs.Tables.{job_checks, opened_job, slot_ok, vacant_job, walk, walks}
-use Rattle.model.proofs.Colours.{black_or, clash}
+use Rattle.model.proofs.Colours.{black_or}
 use Rattle.model.proofs.Granted.{Passed, hand_range, not_zero}
 use Rattle.model.proofs.Invariant.{Inv, Keeps, Marking, Protected, StandsFor, via}
 use Rattle.model.proofs.JobRowsKeep.{MayHold, at_none, close_ok, hand_keeps, open_ok, row_alone_keeps, row_keeps, running_open, stand_ok}
@@ -20,8 +20,7 @@ use Rattle.model.proofs.TableLaws.{vacant_passes, vacant_range}
 
 pub parked_open : (t : JobState) → is_parked t ≡ true → is_open t ≡ true
 parked_open Closed h = h
-parked_open Running h = refl
-parked_open Parked h = refl
+parked_open _ h = refl
 
 module _ (s : State) (b : Book) (place : ℕ → ℕ) (inv : Inv s b place) where
   pub open_keeps : not (eqb (vacant_job s) 0) ≡ true →
@@ -96,10 +95,10 @@ module _ (s : State) (b : Book) (place : ℕ → ℕ) (inv : Inv s b place) wher
       MayHold s.cell s.phase s.cursor row place (led b.slot r path) (result_unwrap_or (walk s.cell c n path) 0)
   unfolding walk led
   walk_may row [] r c n m = λ e. m
-  walk_may row (i ∷ is) r c n m = cond_both (eqb c 0) _ _ ends (λ z q. clash cc)
+  walk_may row (i ∷ is) r c n m = cond_both (eqb c 0) _ _ ends (λ z q. cc)
       (λ z. cond_both (slot_ok (s.cell c) i) _ _ ends
       (λ q. walk_may row is (b.slot r i) (at (slots (s.cell c)) i) (suc n) (slot_may row r c i (eqb-false c 0 z) m))
-      (λ z q. clash cc))
+      (λ z q. cc))
     where
       ends : Result ℕ Refusal → Type 0
       ends o = (walks o).holds ≡ true → MayHold s.cell s.phase s.cursor row place (led b.slot (b.slot r i) is)

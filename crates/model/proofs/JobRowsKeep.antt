@@ -3,14 +3,13 @@ use Rattle.std.proofs.Common.{◌≡◌, ℕ, ◌≤◌, true, false, cond, ◌�
 use borrow.Author.Tests.{both_ways}
 use Rattle.std.proofs.lemmas.Bool.{cond_both}
 use Rattle.model.specs.declared.JobState.{JobState}
-use Rattle.model.specs.declared.JobState.TheVariants.{Closed, Parked, Running}
+use Rattle.model.specs.declared.JobState.TheVariants.{Closed}
 use Rattle.model.specs.declared.Phase.{Phase}
-use Rattle.model.specs.declared.Phase.TheVariants.{Arming, Cleaning, Normal, Parting, Repeat, Scanning, Sweeping, Tracing}
+use Rattle.model.specs.declared.Phase.TheVariants.{Arming, Cleaning, Parting, Repeat, Scanning, Tracing}
 use Rattle.model.specs.Book.{Book, hold}
 use Rattle.model.specs.Cycle.{grey_all, nodded, nodded_job}
 use Rattle.model.specs.Machine.{Cell, Job, State, at, closed_row, empty_hands, in_phase, is_open, is_running, put, set_hand, upd, with_cells, with_jobs}
 use Rattle.model.specs.Tables.{opened_job}
-use Rattle.model.proofs.Colours.{clash}
 use Rattle.model.proofs.GreyingKeeps.{Greys, grey_list, greying_keeps, greys_refl, marked_list, stays}
 use Rattle.model.proofs.Invariant.{Flags, HandsOk, Inv, JobOk, Kept, Marking, Protected, StandsFor, marked}
 use Rattle.model.proofs.PhaseCases.{marking_cases, phase_is}
@@ -50,8 +49,7 @@ row_alone_keeps s b place j l y inv small ok rel = jobs_keep s b place (upd s.jo
 
 pub running_open : (t : JobState) → is_running t ≡ true → is_open t ≡ true
 running_open Closed h = h
-running_open Running h = refl
-running_open Parked h = refl
+running_open _ h = refl
 
 -- what may go into a hand of a job
 pub record MayHold (f : ℕ → Cell) (p : Phase) (cur : ℕ) (b : Job) (place : ℕ → ℕ) (r v : ℕ) : Type 0 where
@@ -86,20 +84,18 @@ hand_keeps s b place j h r v inv o rng m = row_keeps s b place j s.last_job _ _ 
         (λ q. inv.hands j g)) rng.0 (omega (arith, (inv.jobs j).eight))
 
 arms_flags : (p : Phase) → Flags p (opened_job p).armed false
-arms_flags Normal = refl
 arms_flags Arming = λ e. refl
-arms_flags Scanning = refl
 arms_flags Tracing = (refl, refl)
 arms_flags Repeat = (refl, refl)
 arms_flags Cleaning = tt
 arms_flags Parting = λ e. refl
-arms_flags Sweeping = refl
+arms_flags _ = refl
 
 pub open_ok : (f : ℕ → Cell) (p : Phase) (cur j : ℕ) → 1 ≤ j → j ≤ 16 → JobOk f p cur j (opened_job p)
 open_ok f p cur j lo hi = record {
   range = λ o. (lo, hi);
   eight = refl;
-  shut = λ e. clash cc;
+  shut = λ e. cc;
   flags = λ o. arms_flags p;
   roots = λ h n. absurd (n (at_none h));
   protected = λ t o h n. absurd (n (at_none h));
@@ -107,10 +103,10 @@ open_ok f p cur j lo hi = record {
 
 pub close_ok : (f : ℕ → Cell) (p : Phase) (cur j : ℕ) → JobOk f p cur j closed_row
 close_ok f p cur j = record {
-  range = λ o. clash cc;
+  range = λ o. cc;
   eight = refl;
   shut = λ e. at_none;
-  flags = λ o. clash cc;
+  flags = λ o. cc;
   roots = λ h n. absurd (n (at_none h));
   protected = λ t o h n. absurd (n (at_none h));
 }
@@ -137,14 +133,12 @@ nod_greys p f l cur = cond_both (in_phase Scanning p) (grey_all f l) f (λ g. Gr
     (λ e. greys_refl f p cur)
 
 nod_flags : (p : Phase) (row : Job) → Flags p row.armed row.owes → Flags p (nodded_job p row).armed false
-nod_flags Normal row h = h
 nod_flags Arming row h = λ e. refl
-nod_flags Scanning row h = h
 nod_flags Tracing row h = (h.0, refl)
 nod_flags Repeat row h = (h.0, refl)
 nod_flags Cleaning row h = tt
 nod_flags Parting row h = λ e. refl
-nod_flags Sweeping row h = h
+nod_flags _ row h = h
 
 nod_protects : (p : Phase) (f : ℕ → Cell) (cur j : ℕ) (row : Job) → is_open row.status ≡ true → JobOk f p cur j row →
     Marking p → (h : ℕ) → at row.hands h ≢ 0 → Protected (nod_cells p f row.hands) (at row.hands h)

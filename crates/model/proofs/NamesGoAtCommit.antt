@@ -10,7 +10,6 @@ use Rattle.model.specs.Promise.{Lost}
 use Rattle.model.specs.Runs.{Loses, Picks, Run, World, next}
 use Rattle.model.proofs.CallChanges.{Commit, SameNames}
 use Rattle.model.proofs.CardsRead.{filed_live, on_file}
-use Rattle.model.proofs.Colours.{clash}
 use Rattle.model.proofs.Invariant.{Keeps, Live, LiveCard, Sound, Spared}
 use Rattle.model.proofs.RunsKeep.{next_sound, run_sound}
 use Rattle.model.proofs.StepChanges.{next_changes, next_place, step_book}
@@ -92,7 +91,7 @@ module _ (x : World) (c : Call) (pick : ℕ) (right : Picks x.state pick) (inv :
           }
             where
               tracing_cleaning : {p : Phase} → p ≡ Tracing → p ≡ Cleaning → ⊥
-              tracing_cleaning a b = clash cc
+              tracing_cleaning a b = cc
 
           at_q : (s'.card m).record_at ≡ x.place q
           at_q = ap (λ (z : Card). z.record_at) (commits.cards m) ∙ ap (λ (i : ℕ). (s.card i).record_at)

@@ -4,7 +4,7 @@ use Rattle.std.proofs.lemmas.Slice.Eq.{bytes_eq-Decides}
 use Rattle.std.proofs.lemmas.Bool.{cases_Bool}
 use Rattle.model.specs.declared.Colour.TheVariants.{White}
 use Rattle.model.specs.declared.Phase.{Phase}
-use Rattle.model.specs.declared.Phase.TheVariants.{Arming, Cleaning, Normal, Parting, Repeat, Scanning, Sweeping, Tracing}
+use Rattle.model.specs.declared.Phase.TheVariants.{Cleaning, Normal, Parting, Sweeping}
 use Rattle.model.specs.Book.{Book, bearer, hold, is_named, latest, new_record}
 use Rattle.model.specs.Calls.{Spelling, find, make, text}
 use Rattle.model.specs.Cycle.{grey_if, new_colour}
@@ -13,7 +13,6 @@ use Rattle.model.specs.Runs.{FreeCell}
 use Rattle.model.specs.Tables.{filed_on, find_greys, found_into, job_checks, settles, taken, vacant_card}
 use Rattle.model.proofs.BarrierKeeps.{cells_if, grey_keeps, greys_if, marked_if, phase_if}
 use Rattle.model.proofs.CardsRead.{empty_dead, filed_live, on_file}
-use Rattle.model.proofs.Colours.{clash}
 use Rattle.model.proofs.Granted.{Passed, hand_range, not_zero}
 use Rattle.model.proofs.GreyingKeeps.{Greys, grey_keep, repeats_marking}
 use Rattle.model.proofs.Invariant.{Greying, Inv, Keeps, Kept, Live, LiveCard, Marked, Marking, marked}
@@ -24,14 +23,11 @@ use Rattle.model.proofs.TakingKeeps.{file_cards, latest_most, latest_new, latest
 
 -- find greys only where calls grey, and wherever a record must be protected
 pub finds_greying : (p : Phase) (owes : Bool) → find_greys p owes ≡ true → Greying p
-finds_greying Normal owes e = clash cc
-finds_greying Arming owes e = tt
-finds_greying Scanning owes e = tt
-finds_greying Tracing owes e = tt
-finds_greying Repeat owes e = tt
-finds_greying Cleaning owes e = clash cc
-finds_greying Parting owes e = clash cc
-finds_greying Sweeping owes e = clash cc
+finds_greying Normal owes e = cc
+finds_greying Cleaning owes e = cc
+finds_greying Parting owes e = cc
+finds_greying Sweeping owes e = cc
+finds_greying _ owes e = tt
 
 marking_greys : (p : Phase) (owes : Bool) → owes ≡ false → Marking p → find_greys p owes ≡ true
 marking_greys p owes e = marking_cases (λ q. find_greys q owes ≡ true) (ap not e) refl refl p

@@ -18,33 +18,21 @@ phase_is _ _ e = cc
 
 -- what holds in each phase in which calls grey records
 pub greying_cases : (P : Phase → Type 0) → P Arming → P Scanning → P Tracing → P Repeat → (p : Phase) → Greying p → P p
-greying_cases P a s t r Normal g = absurd g
 greying_cases P a s t r Arming g = a
 greying_cases P a s t r Scanning g = s
 greying_cases P a s t r Tracing g = t
 greying_cases P a s t r Repeat g = r
-greying_cases P a s t r Cleaning g = absurd g
-greying_cases P a s t r Parting g = absurd g
-greying_cases P a s t r Sweeping g = absurd g
+greying_cases P a s t r _ g = absurd g
 
 -- ... in each phase of marking
 pub marking_cases : (P : Phase → Type 0) → P Scanning → P Tracing → P Repeat → (p : Phase) → Marking p → P p
-marking_cases P s t r Normal m = absurd m
-marking_cases P s t r Arming m = absurd m
 marking_cases P s t r Scanning m = s
 marking_cases P s t r Tracing m = t
 marking_cases P s t r Repeat m = r
-marking_cases P s t r Cleaning m = absurd m
-marking_cases P s t r Parting m = absurd m
-marking_cases P s t r Sweeping m = absurd m
+marking_cases P s t r _ m = absurd m
 
 -- ... and in each phase of tracing
 pub tracing_cases : (P : Phase → Type 0) → P Tracing → P Repeat → (p : Phase) → T (is_tracing p) → P p
-tracing_cases P t r Normal m = absurd m
-tracing_cases P t r Arming m = absurd m
-tracing_cases P t r Scanning m = absurd m
 tracing_cases P t r Tracing m = t
 tracing_cases P t r Repeat m = r
-tracing_cases P t r Cleaning m = absurd m
-tracing_cases P t r Parting m = absurd m
-tracing_cases P t r Sweeping m = absurd m
+tracing_cases P t r _ m = absurd m

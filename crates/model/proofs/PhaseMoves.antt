@@ -12,18 +12,13 @@ use Rattle.model.specs.Book.{Book}
 use Rattle.model.specs.Cycle.{all_owe, owes_as, owing}
 use Rattle.model.specs.Machine.{Job, State, at, at_phase, colour, is_open, is_parked, is_running, slots, with_jobs}
 use Rattle.model.proofs.Carried.{cards_move, recs_move}
-use Rattle.model.proofs.Colours.{clash, some_none}
+use Rattle.model.proofs.Colours.{some_none}
 use Rattle.model.proofs.Invariant.{ColourOk, Flags, Inv, Keeps, Kept, Live, LiveCard, Marked, Marking, Protected, Spared, marked, via}
 use Rattle.model.proofs.TableLaws.{first_none}
 
 -- every open job owes a nod from now on, if a test passes
 abbrev owing_if : Bool → Job → Job
-owing_if t row = record {
-  status = row.status;
-  armed = row.armed;
-  owes = cond t (is_open row.status) row.owes;
-  hands = row.hands;
-}
+owing_if t row = record row { owes = cond t (is_open row.status) row.owes }
 
 abbrev moved : State → Bool → Phase → ℕ → ℕ → State
 moved s t p cur r = at_phase (with_jobs s (λ j. owing_if t (s.job j)) s.last_job) p cur r
@@ -128,7 +123,7 @@ no_owes s b place inv p r j o = go (s.job j).status (s.job j).owes refl o
 
     go : (t : JobState) (w : Bool) → (s.job j).owes ≡ w → is_open t ≡ true → (is_parked t && w) ≡ false →
         (is_running t && w) ≡ false → w ≡ false
-    go Closed w e o a c = clash cc
+    go Closed w e o a c = cc
     go Running w e o a c = c
     go Parked w e o a c = a
 
@@ -161,7 +156,7 @@ module _ (s : State) (b : Book) (place : ℕ → ℕ) (inv : Inv s b place) wher
   pub begin_keeps : s.phase ≡ Normal → Inv (at_phase (all_owe s) Arming 0 0) b place
   begin_keeps e = move Normal e true Arming 0 0 (record {
     kept = even (from Normal) Arming 0 (λ d a z. tt) (λ d a z. tt);
-    cards = not_cleaning (from Normal) Arming 0 (λ q. clash cc) (λ q. clash cc);
+    cards = not_cleaning (from Normal) Arming 0 (λ q. cc) (λ q. cc);
     marking = not_marking (from Normal) true Arming (λ m. m);
     colours = λ d. ((sound_from Normal e).heap.colours d).1;
     flags = λ j o q. absurd (both_ways _ q o);
@@ -170,7 +165,7 @@ module _ (s : State) (b : Book) (place : ℕ → ℕ) (inv : Inv s b place) wher
   pub to_scanning : s.phase ≡ Arming → (r : ℕ) → NoneOwe s → Inv (at_phase (all_owe s) Scanning 0 r) b place
   to_scanning e r none_owe = move Arming e true Scanning 0 r (record {
     kept = even (from Arming) Scanning 0 (λ d a z. tt) (λ d a z. tt);
-    cards = not_cleaning (from Arming) Scanning 0 (λ q. clash cc) (λ q. clash cc);
+    cards = not_cleaning (from Arming) Scanning 0 (λ q. cc) (λ q. cc);
     marking = record {
       protects = λ m c a. absurd ((sound_from Arming e).heap.colours c a);
       protected = λ m j o h n. absurd (n ((inv.jobs j).shut o h));
@@ -182,7 +177,7 @@ module _ (s : State) (b : Book) (place : ℕ → ℕ) (inv : Inv s b place) wher
   pub to_tracing : s.phase ≡ Scanning → (r : ℕ) → NoneOwe s → Inv (at_phase s Tracing 1 r) b place
   to_tracing e r none_owe = move Scanning e false Tracing 1 r (record {
     kept = even (from Scanning) Tracing 1 (λ d a z. tt) (λ d a z. tt);
-    cards = not_cleaning (from Scanning) Tracing 1 (λ q. clash cc) (λ q. clash cc);
+    cards = not_cleaning (from Scanning) Tracing 1 (λ q. cc) (λ q. cc);
     marking = record {
       protects = (sound_from Scanning e).heap.protects;
       protected = λ m j o h n. all_protected (from Scanning) b place (sound_from Scanning e) tt none_owe j h n;
@@ -196,7 +191,7 @@ module _ (s : State) (b : Book) (place : ℕ → ℕ) (inv : Inv s b place) wher
       Inv (at_phase s Tracing (suc s.cursor) r) b place
   trace_next e r not_grey = move Tracing e false Tracing (suc s.cursor) r (record {
     kept = even (from Tracing) Tracing (suc s.cursor) (λ d a z. tt) (λ d a z. tt);
-    cards = not_cleaning (from Tracing) Tracing (suc s.cursor) (λ q. clash cc) (λ q. clash cc);
+    cards = not_cleaning (from Tracing) Tracing (suc s.cursor) (λ q. cc) (λ q. cc);
     marking = record {
       protects = (sound_from Tracing e).heap.protects;
       protected = λ m j. ((sound_from Tracing e).jobs j).protected m;
@@ -212,7 +207,7 @@ module _ (s : State) (b : Book) (place : ℕ → ℕ) (inv : Inv s b place) wher
   pub repeat_next : s.phase ≡ Repeat → (cur r : ℕ) → Inv (at_phase s Repeat cur r) b place
   repeat_next e cur r = move Repeat e false Repeat cur r (record {
     kept = even (from Repeat) Repeat cur (λ d a z. tt) (λ d a z. tt);
-    cards = not_cleaning (from Repeat) Repeat cur (λ q. clash cc) (λ q. clash cc);
+    cards = not_cleaning (from Repeat) Repeat cur (λ q. cc) (λ q. cc);
     marking = record {
       protects = (sound_from Repeat e).heap.protects;
       protected = λ m j. ((sound_from Repeat e).jobs j).protected m;
@@ -225,7 +220,7 @@ module _ (s : State) (b : Book) (place : ℕ → ℕ) (inv : Inv s b place) wher
   pub round_next : s.phase ≡ Repeat → (r : ℕ) → Inv (at_phase s Tracing 1 r) b place
   round_next e r = move Repeat e false Tracing 1 r (record {
     kept = even (from Repeat) Tracing 1 (λ d a z. tt) (λ d a z. tt);
-    cards = not_cleaning (from Repeat) Tracing 1 (λ q. clash cc) (λ q. clash cc);
+    cards = not_cleaning (from Repeat) Tracing 1 (λ q. cc) (λ q. cc);
     marking = record {
       protects = (sound_from Repeat e).heap.protects;
       protected = λ m j. ((sound_from Repeat e).jobs j).protected m;
@@ -239,10 +234,9 @@ module _ (s : State) (b : Book) (place : ℕ → ℕ) (inv : Inv s b place) wher
   protected_black no_grey (marked {c = c} l) = go (colour (s.cell c)) refl l
     where
       go : (l : Option Colour) → colour (s.cell c) ≡ l → Marked l → l ≡ Some Black
-      go None e h = absurd h
-      go (Some White) e h = absurd h
       go (Some Grey) e h = absurd (no_grey c e)
       go (Some Black) e h = refl
+      go _ e h = absurd h
   protected_black no_grey (via i g n e z) = absurd (n (protected_black no_grey g))
 
   pub commit_keeps : s.phase ≡ Tracing → (r : ℕ) → ((d : ℕ) → colour (s.cell d) ≢ Some Grey) →
@@ -258,7 +252,7 @@ module _ (s : State) (b : Book) (place : ℕ → ℕ) (inv : Inv s b place) wher
       card = λ k l u. record { in_use = u.in_use; spared = λ z. l.not_white refl z };
     };
     cards = record {
-      unlive = λ k l. record { filled = l.filled; not_white = λ q. clash cc };
+      unlive = λ k l. record { filled = l.filled; not_white = λ q. cc };
       clears = λ q k lo hi. absurd (omega arith);
     };
     marking = not_marking (from Tracing) false Cleaning (λ m. m);
@@ -267,7 +261,7 @@ module _ (s : State) (b : Book) (place : ℕ → ℕ) (inv : Inv s b place) wher
   })
     where
       black_kept : (c : ℕ) → colour (s.cell c) ≡ Some Black → Kept Cleaning 1 c (s.cell c)
-      black_kept c d = record { in_use = λ z. clash cc; spared = λ z. clash cc }
+      black_kept c d = record { in_use = λ z. cc; spared = λ z. cc }
 
       is_black : (c : ℕ) (l : Option Colour) → colour (s.cell c) ≡ l → Kept Cleaning 1 c (s.cell c) →
           colour (s.cell c) ≡ Some Black
@@ -304,7 +298,7 @@ module _ (s : State) (b : Book) (place : ℕ → ℕ) (inv : Inv s b place) wher
         not_white = λ q. let h = inv.cards.ranged k l.filled in (sound_from Cleaning e).cards.cleared refl k h.0
             (omega arith) l.filled;
       };
-      clears = λ q. clash cc;
+      clears = λ q. cc;
     };
     marking = not_marking (from Cleaning) true Parting (λ m. m);
     colours = (sound_from Cleaning e).heap.colours;
@@ -314,7 +308,7 @@ module _ (s : State) (b : Book) (place : ℕ → ℕ) (inv : Inv s b place) wher
   pub to_sweeping : s.phase ≡ Parting → (r : ℕ) → NoneOwe s → Inv (at_phase s Sweeping 1 r) b place
   to_sweeping e r none_owe = move Parting e false Sweeping 1 r (record {
     kept = even (from Parting) Sweeping 1 (λ d a z. zero_not d White z a) (λ d a z. absurd z);
-    cards = not_cleaning (from Parting) Sweeping 1 (λ q. clash cc) (λ q. clash cc);
+    cards = not_cleaning (from Parting) Sweeping 1 (λ q. cc) (λ q. cc);
     marking = not_marking (from Parting) false Sweeping (λ m. m);
     colours = λ d. ((sound_from Parting e).heap.colours d, zero_not d Black);
     flags = λ j o. ((sound_from Parting e).jobs j).flags o (none_owe j o);
@@ -322,12 +316,12 @@ module _ (s : State) (b : Book) (place : ℕ → ℕ) (inv : Inv s b place) wher
 
   pub to_normal : s.phase ≡ Sweeping → (r : ℕ) → s.size < s.cursor → Inv (at_phase s Normal 0 r) b place
   to_normal e r past = move Sweeping e false Normal 0 r (record {
-    kept = even (from Sweeping) Normal 0 (λ d a z. let h = inv.heap.inside d (λ q. clash cc) in omega arith) (λ d a z. tt);
-    cards = not_cleaning (from Sweeping) Normal 0 (λ q. clash cc) (λ q. clash cc);
+    kept = even (from Sweeping) Normal 0 (λ d a z. let h = inv.heap.inside d (λ q. cc) in omega arith) (λ d a z. tt);
+    cards = not_cleaning (from Sweeping) Normal 0 (λ q. cc) (λ q. cc);
     marking = not_marking (from Sweeping) false Normal (λ m. m);
     colours = λ d. (
       ((sound_from Sweeping e).heap.colours d).0,
-      λ z. let h = inv.heap.inside d (λ q. clash cc) in ((sound_from
+      λ z. let h = inv.heap.inside d (λ q. cc) in ((sound_from
           Sweeping e).heap.colours d).1 (omega arith) z,
     );
     flags = λ j o. ((sound_from Sweeping e).jobs j).flags o;

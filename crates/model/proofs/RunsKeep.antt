@@ -9,7 +9,6 @@ use Rattle.model.specs.Machine.{State, filed, upd}
 use Rattle.model.specs.Runs.{Picks, Run, Through, World, granted, more, new_world, next, now, standing, start, called}
 use Rattle.model.specs.Tables.{checks, effect, is_on_file, job_checks, job_effect, settle_on, settles}
 use Rattle.model.proofs.CardsRead.{filed_live}
-use Rattle.model.proofs.Colours.{clash}
 use Rattle.model.proofs.Granted.{Passed, hand_range, next_cases, not_zero, or_second}
 use Rattle.model.proofs.Invariant.{Inv, LiveCard, Sound}
 use Rattle.model.proofs.JobCallsKeep.{close_keeps, copy_keeps, drop_keeps, follow_keeps, load_keeps, open_keeps, parked_open, status_keeps}
@@ -99,15 +98,15 @@ new_sound n w = record {
   heap = record {
     no_zero = refl;
     inside = λ c h. absurd (h refl);
-    colours = λ c. ((λ e. clash cc), (λ e. clash cc));
+    colours = λ c. ((λ e. cc), (λ e. cc));
     leads = λ c k. absurd (k.in_use refl);
     protects = λ t. absurd t;
   };
   jobs = λ j. record {
-    range = λ e. clash cc;
+    range = λ e. cc;
     eight = refl;
     shut = λ e. at_none;
-    flags = λ o. clash cc;
+    flags = λ o. cc;
     roots = λ h z. absurd (z (at_none h));
     protected = λ t. absurd t;
   };
@@ -116,7 +115,7 @@ new_sound n w = record {
     live = λ k l. absurd (l.filled refl);
     back = λ c k. absurd (k.in_use refl);
     distinct = λ k m l. absurd (l.filled refl);
-    cleared = λ e. clash cc;
+    cleared = λ e. cc;
   };
   hands = λ j h. record { is = at_none h; none_is = λ z. refl };
   recs = record {

@@ -4,11 +4,10 @@ use borrow.Author.Tests.{both_ways}
 use Rattle.std.proofs.lemmas.Bool.{cases_eq}
 use Rattle.refusal.specs.declared.Refusal.{Refusal}
 use Rattle.model.specs.Book.{Book, is_found, write, write_settle}
-use Rattle.model.specs.Calls.{Answer, Call, Grant, begin, by, close, copy, drop_hand, find, follow, load, make, nod, open_job, park, same, settle, spelling_of, step, store, text, wake}
+use Rattle.model.specs.Calls.{Answer, Call, Grant, by, load, make, settle, store, text}
 use Rattle.model.specs.Machine.{Job, State, at, hand, held, set_hand, slots, upd}
 use Rattle.model.specs.Runs.{Granted, LastPut, Picks, Puts, Run, World, earlier, granted, never, next, next_by, puts, start, called, this}
 use Rattle.model.specs.Tables.{job_checks, job_effect, outcome, running}
-use Rattle.model.proofs.Colours.{clash}
 use Rattle.model.proofs.Granted.{Passed, granted_next, hand_range, not_zero}
 use Rattle.model.proofs.Invariant.{Keeps, Sound}
 use Rattle.model.proofs.RunsKeep.{run_sound}
@@ -36,28 +35,15 @@ new_slots b u r i = upd_elim (λ f. f i ≡ b.slot r i) b.slot (suc b.count) r (
 
 -- a call leaves all slots, or is a store
 slots_stay_or_store : (b : Book) (c : Call) (a : Answer) → UnmadeEmpty b → SlotsStay b c a ⊎ IsStore c
-slots_stay_or_store b (by j close) a u = inl (record { same_slot = λ r i. refl; no_store = λ j g i h e. clash cc })
-slots_stay_or_store b (by j park) a u = inl (record { same_slot = λ r i. refl; no_store = λ j g i h e. clash cc })
-slots_stay_or_store b (by j wake) a u = inl (record { same_slot = λ r i. refl; no_store = λ j g i h e. clash cc })
-slots_stay_or_store b (by j nod) a u = inl (record { same_slot = λ r i. refl; no_store = λ j g i h e. clash cc })
-slots_stay_or_store b (by j (make h w)) a u = inl (record { same_slot = new_slots b u; no_store = λ j g i h e. clash cc })
+slots_stay_or_store b (by j (make h w)) a u = inl (record { same_slot = new_slots b u; no_store = λ j g i h e. cc })
 slots_stay_or_store b (by j (settle name h w)) a u =
-    inl (record { same_slot = go (is_found a); no_store = λ j g i h e. clash cc })
+    inl (record { same_slot = go (is_found a); no_store = λ j g i h e. cc })
   where
     go : (t : Bool) (r i : ℕ) → (write_settle t b j (text name) h w).slot r i ≡ b.slot r i
     go true r i = refl
     go false r i = new_slots b u r i
-slots_stay_or_store b (by j (find name h)) a u = inl (record { same_slot = λ r i. refl; no_store = λ j g i h e. clash cc })
-slots_stay_or_store b (by j (load g k h)) a u = inl (record { same_slot = λ r i. refl; no_store = λ j g i h e. clash cc })
 slots_stay_or_store b (by j (store g k h)) a u = inr (record { job = j; of = g; at_slot = k; from = h; is = refl })
-slots_stay_or_store b (by j (copy g h)) a u = inl (record { same_slot = λ r i. refl; no_store = λ j g i h e. clash cc })
-slots_stay_or_store b (by j (drop_hand h)) a u = inl (record { same_slot = λ r i. refl; no_store = λ j g i h e. clash cc })
-slots_stay_or_store b (by j (same g h)) a u = inl (record { same_slot = λ r i. refl; no_store = λ j g i h e. clash cc })
-slots_stay_or_store b (by j (follow g path h)) a u = inl (record { same_slot = λ r i. refl; no_store = λ j g i h e. clash cc })
-slots_stay_or_store b (by j (spelling_of h n)) a u = inl (record { same_slot = λ r i. refl; no_store = λ j g i h e. clash cc })
-slots_stay_or_store b open_job a u = inl (record { same_slot = λ r i. refl; no_store = λ j g i h e. clash cc })
-slots_stay_or_store b begin a u = inl (record { same_slot = λ r i. refl; no_store = λ j g i h e. clash cc })
-slots_stay_or_store b step a u = inl (record { same_slot = λ r i. refl; no_store = λ j g i h e. clash cc })
+slots_stay_or_store b _ a u = inl (record { same_slot = λ r i. refl; no_store = λ j g i h e. cc })
 
 -- a store that puts something into a slot is a store of that slot
 puts_is : {b : Book} {r i v : ℕ} {c : Call} → Puts b r i v c →
@@ -180,24 +166,9 @@ loads x run j g i h pick right ok = (
 
 -- records are only added
 pub write_count : (b : Book) (c : Call) (a : Answer) → b.count ≤ (write b c a).count
-write_count b (by j close) a = omega arith
-write_count b (by j park) a = omega arith
-write_count b (by j wake) a = omega arith
-write_count b (by j nod) a = omega arith
-write_count b (by j (make h w)) a = omega arith
 write_count b (by j (settle name h w)) a = go (is_found a)
   where
     go : (t : Bool) → b.count ≤ (write_settle t b j (text name) h w).count
     go true = omega arith
     go false = omega arith
-write_count b (by j (find name h)) a = omega arith
-write_count b (by j (load g k h)) a = omega arith
-write_count b (by j (store g k h)) a = omega arith
-write_count b (by j (copy g h)) a = omega arith
-write_count b (by j (drop_hand h)) a = omega arith
-write_count b (by j (same g h)) a = omega arith
-write_count b (by j (follow g path h)) a = omega arith
-write_count b (by j (spelling_of h n)) a = omega arith
-write_count b open_job a = omega arith
-write_count b begin a = omega arith
-write_count b step a = omega arith
+write_count b _ a = omega arith

@@ -12,7 +12,7 @@ use Rattle.model.specs.Runs.{Picks, World, given, next}
 use Rattle.model.specs.Tables.{checks, effect}
 use Rattle.model.proofs.CallChanges.{Changes, Commit, SameNames, Touched, from_marked, job_changes, nod_change, rows_change}
 use Rattle.model.proofs.CallsByEffect.{effect_of}
-use Rattle.model.proofs.Colours.{clash, free_white, grey_is, white_is}
+use Rattle.model.proofs.Colours.{free_white, grey_is, white_is}
 use Rattle.model.proofs.Granted.{Passed, next_cases}
 use Rattle.model.proofs.GreyingKeeps.{grey_list, marked_in, unused_greyer, used_greyer}
 use Rattle.model.proofs.Invariant.{Inv, Keeps, Kept, Live, LiveCard, Marked, Sound, Spared}
@@ -72,7 +72,7 @@ module _ (s : State) (b : Book) (place : ℕ → ℕ) (inv : Inv s b place) wher
       g = grey_all s.cell (slots (s.cell s.cursor))
 
       used_g : colour (g s.cursor) ≢ None
-      used_g = used_greyer (grey_list s.cell (slots (s.cell s.cursor)) s.cursor) (λ z. clash cc)
+      used_g = used_greyer (grey_list s.cell (slots (s.cell s.cursor)) s.cursor) (λ z. cc)
 
       from : (d : ℕ) → colour (upd g s.cursor (painted Black (g s.cursor)) d) ≢ None → colour (g d) ≢ None
       from d = upd_elim (λ y. colour y ≢ None → colour (g d) ≢ None) g s.cursor d (painted Black (g s.cursor))
@@ -88,22 +88,22 @@ module _ (s : State) (b : Book) (place : ℕ → ℕ) (inv : Inv s b place) wher
   trace_change spare tracing = cond_both (is_grey (s.cell s.cursor)) (scanned s) s (λ x. Stepped (trace_on x))
       (λ a. trace_on_cases Stepped (scanned s)
       (λ q. grey_step_change (grey_is _ a) spare (scanned s).phase _ _ (λ z. not_cleaning (phase_scanned s) z))
-      (λ q. repeat_end Stepped (scanned s) (phase_scanned s) (grey_step_change (grey_is _ a) spare Tracing _ _ (λ z. clash cc))))
+      (λ q. repeat_end Stepped (scanned s) (phase_scanned s) (grey_step_change (grey_is _ a) spare Tracing _ _ (λ z. cc))))
       (λ a. trace_on_cases Stepped s (λ q. moves_on (onward s) (λ d. refl) (λ k. refl) (λ d u v. spare d) (inl (other tracing)))
       (λ q. end tracing))
     where
       not_cleaning : {p : Phase} → p ≡ Repeat → p ≡ Cleaning → ⊥
-      not_cleaning a c = clash cc
+      not_cleaning a c = cc
 
       other : (s.phase ≡ Tracing) ⊎ (s.phase ≡ Repeat) → s.phase ≢ Cleaning
-      other (inl e) z = clash cc
-      other (inr e) z = clash cc
+      other (inl e) z = cc
+      other (inr e) z = cc
 
       end : (s.phase ≡ Tracing) ⊎ (s.phase ≡ Repeat) → Stepped (round_end s)
       end (inl e) = commit_end Stepped s e (moves_on (at_phase s Cleaning 1 s.rounds) (λ d. refl) (λ k. refl)
           (λ d u v. spare d) (inr (e, refl)))
       end (inr e) = repeat_end Stepped s e (moves_on (at_phase s Tracing 1 (suc s.rounds)) (λ d. refl) (λ k. refl)
-          (λ d u v. spare d) (inl (λ z. clash cc)))
+          (λ d u v. spare d) (inl (λ z. cc)))
 
   -- the visit of a card: live cards stay
   clean_change : s.phase ≡ Cleaning → Stepped (clean_on (cleaned s))
@@ -130,7 +130,7 @@ module _ (s : State) (b : Book) (place : ℕ → ℕ) (inv : Inv s b place) wher
           (λ q. record {
             back = λ d k. inl (record { in_use = k.in_use; spared = λ z. absurd (k.spared z) });
             names = inl (λ k l. subst (λ (x : Card). Live s.cell Parting x × (x.spelling ≡ (s.card k).spelling))
-                (sym (stay k l)) (record { filled = l.filled; not_white = λ (w : Parting ≡ Cleaning). clash cc }, refl));
+                (sym (stay k l)) (record { filled = l.filled; not_white = λ (w : Parting ≡ Cleaning). cc }, refl));
             marks = λ d l. inl l;
           })
 
@@ -147,12 +147,12 @@ module _ (s : State) (b : Book) (place : ℕ → ℕ) (inv : Inv s b place) wher
           spared = λ z. let h = inv.heap.inside d (sweep_used s.cell s.cursor d k.in_use) in let w =
               ltb-false s.cursor s.size q in omega arith;
         }));
-        names = inl (λ k l. (record { filled = l.filled; not_white = λ (w : Normal ≡ Cleaning). clash cc }, refl));
+        names = inl (λ k l. (record { filled = l.filled; not_white = λ (w : Normal ≡ Cleaning). cc }, refl));
         marks = λ d l. inl (sweep_marked s.cell s.cursor d l);
       })
     where
       other : s.phase ≢ Cleaning
-      other w = clash cc
+      other w = cc
 
       before : (d : ℕ) → Kept Sweeping (suc s.cursor) d ((swept s).cell d) → Keeps s d
       before d k = subst (λ (p : Phase). Kept p s.cursor d (s.cell d)) (sym e) (sweep_back s.cell s.cursor d k)
@@ -160,15 +160,15 @@ module _ (s : State) (b : Book) (place : ℕ → ℕ) (inv : Inv s b place) wher
   step_changes : (p : Phase) → s.phase ≡ p → Stepped (step_from p s)
   step_changes Normal e = rows_change step s s.job s.last_job
   step_changes Arming e = shake_change _ (moves_on (at_phase (all_owe s) Scanning 0 s.rounds) (λ d. refl) (λ k. refl)
-      (λ d u v. spared_at Arming e (λ d. tt) d) (inl (λ z. clash cc)))
+      (λ d u v. spared_at Arming e (λ d. tt) d) (inl (λ z. cc)))
   step_changes Scanning e = shake_change _ (moves_on (at_phase s Tracing 1 1) (λ d. refl) (λ k. refl)
-      (λ d u v. spared_at Scanning e (λ d. tt) d) (inl (λ z. clash cc)))
+      (λ d u v. spared_at Scanning e (λ d. tt) d) (inl (λ z. cc)))
   step_changes Tracing e = trace_change (spared_at Tracing e (λ d. tt)) (inl e)
   step_changes Repeat e = trace_change (spared_at Repeat e (λ d. tt)) (inr e)
   step_changes Cleaning e = clean_change e
   step_changes Parting e = shake_change _ (moves_on (at_phase s Sweeping 1 s.rounds) (λ d. refl) (λ k. refl)
       (λ d u v. absurd (free_white (ap (λ (m : ℕ). colour (s.cell m)) (zero_is d v) ∙ inv.heap.no_zero) u))
-      (inl (λ z. clash cc)))
+      (inl (λ z. cc)))
     where
       zero_is : (d : ℕ) → d < 1 → d ≡ 0
       zero_is d h = omega arith
@@ -177,7 +177,7 @@ module _ (s : State) (b : Book) (place : ℕ → ℕ) (inv : Inv s b place) wher
   begin_change : s.phase ≡ Normal → Changes begin s (at_phase (all_owe s) Arming 0 0)
   begin_change e = record {
     back = λ d k. inl (record { in_use = k.in_use; spared = λ z. spared_at Normal e (λ d. tt) d });
-    names = inl (λ k l. (record { filled = l.filled; not_white = λ (q : Arming ≡ Cleaning). clash cc }, refl));
+    names = inl (λ k l. (record { filled = l.filled; not_white = λ (q : Arming ≡ Cleaning). cc }, refl));
     marks = λ d h. inl h;
   }
 

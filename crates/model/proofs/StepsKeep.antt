@@ -9,7 +9,7 @@ use Rattle.model.specs.Cycle.{all_owe, clean_on, cleaned, cleared, handshake, mu
 use Rattle.model.specs.Machine.{Card, State, among, at_phase, colour, in_phase, is_grey, is_parked, is_running, is_white}
 use Rattle.model.specs.Runs.{next, standing}
 use Rattle.model.proofs.CardVisit.{clean_keeps}
-use Rattle.model.proofs.Colours.{clash, grey_is, grey_not, white_is, white_not}
+use Rattle.model.proofs.Colours.{grey_is, grey_not, white_is, white_not}
 use Rattle.model.proofs.GreyingKeeps.{Repeats, stays, turns}
 use Rattle.model.proofs.Invariant.{Inv, Spared}
 use Rattle.model.proofs.JobCallsKeep.{parked_open}
@@ -32,8 +32,8 @@ not_waiting s h w z = go (among (Arming ∷ Scanning ∷ Parting ∷ []) s.phase
     go : (a p r : Bool) → eqb (owing is_running s) 0 ≡ r → T a → p ≡ true → not (a && (p && not r)) ≡ true →
         owing is_running s ≡ 0
     go true true true e t q w = eqb-true _ 0 e
-    go true true false e t q w = clash cc
-    go true false r e t q w = clash cc
+    go true true false e t q w = cc
+    go true false r e t q w = cc
     go false p r e t q w = absurd t
 
 -- after a visit the cursor moves on, or the round ends
@@ -81,7 +81,7 @@ module _ (s : State) (b : Book) (place : ℕ → ℕ) (inv : Inv s b place) wher
     where
       no_grey : (d : ℕ) → colour (s.cell d) ≡ Some Grey → s.size ≤ s.cursor → (d ≡ s.cursor) ⊎ (d ≡ s.cursor → ⊥) → ⊥
       no_grey d z big (inl q) = n (ap (λ (m : ℕ). colour (s.cell m)) (sym q) ∙ z)
-      no_grey d z big (inr q) = let h = inv.heap.inside d (λ w. clash cc) in (sound_from s b place inv Tracing e).heap.colours d
+      no_grey d z big (inr q) = let h = inv.heap.inside d (λ w. cc) in (sound_from s b place inv Tracing e).heap.colours d
           (omega arith) z
 
   trace_step_keeps : Repeats s.phase Repeat → ((d : ℕ) → Spared s.phase s.cursor d) →

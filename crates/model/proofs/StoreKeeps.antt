@@ -1,17 +1,16 @@
 -- Store keeps the invariant: its barrier greys what it overwrites, and while jobs still owe nods what it writes.
 use Rattle.std.proofs.Common.{◌≡◌, ℕ, ◌≤◌, Bool, true, false, ◌&&◌, ◌≢◌, ◌⊎◌, List, length, sym, refl, ap, ◌∙◌, subst, inl, inr, Some}
-use borrow.Author.Tests.{both_ways}
 use Rattle.std.proofs.lemmas.Bool.{and_from, and_parts}
 use Rattle.model.specs.declared.Colour.TheVariants.{White}
 use Rattle.model.specs.declared.Phase.{Phase}
-use Rattle.model.specs.declared.Phase.TheVariants.{Arming, Cleaning, Normal, Parting, Repeat, Scanning, Sweeping, Tracing}
+use Rattle.model.specs.declared.Phase.TheVariants.{Cleaning, Normal, Parting, Sweeping}
 use Rattle.model.specs.Book.{Book, write_slot}
 use Rattle.model.specs.Calls.{store}
 use Rattle.model.specs.Cycle.{grey_if}
 use Rattle.model.specs.Machine.{State, at, colour, hand, held, is_running, slots}
 use Rattle.model.specs.Tables.{barrier, job_checks, set_slot, store_greys_new, stored}
 use Rattle.model.proofs.BarrierKeeps.{grey_keeps, greys_if, marked_if}
-use Rattle.model.proofs.Colours.{clash, free_white}
+use Rattle.model.proofs.Colours.{free_white}
 use Rattle.model.proofs.Granted.{Passed, not_zero, slot_range}
 use Rattle.model.proofs.GreyingKeeps.{Greys, grey_keep, marked_greyer, repeats_greying, repeats_marking}
 use Rattle.model.proofs.Invariant.{Flags, Greying, Inv, Kept, Marked, Marking, Protected, Spared, marked}
@@ -21,24 +20,18 @@ use Rattle.model.proofs.SlotWriteKeeps.{slot_keeps}
 
 -- an armed job stores over a spared record only where calls grey
 armed_greying : (p : Phase) (cur d : ℕ) (armed owes : Bool) → armed ≡ true → Flags p armed owes → Spared p cur d → Greying p
-armed_greying Normal cur d a o e g z = both_ways a g e
-armed_greying Arming cur d a o e g z = tt
-armed_greying Scanning cur d a o e g z = tt
-armed_greying Tracing cur d a o e g z = tt
-armed_greying Repeat cur d a o e g z = tt
+armed_greying Normal cur d a o e g z = cc
 armed_greying Cleaning cur d a o e g z = z
 armed_greying Parting cur d a o e g z = z
-armed_greying Sweeping cur d a o e g z = both_ways a g e
+armed_greying Sweeping cur d a o e g z = cc
+armed_greying _ cur d a o e g z = tt
 
 new_greying : (p : Phase) → store_greys_new p ≡ true → Greying p
-new_greying Normal e = clash cc
-new_greying Arming e = tt
-new_greying Scanning e = tt
-new_greying Tracing e = tt
-new_greying Repeat e = tt
-new_greying Cleaning e = clash cc
-new_greying Parting e = clash cc
-new_greying Sweeping e = clash cc
+new_greying Normal e = cc
+new_greying Cleaning e = cc
+new_greying Parting e = cc
+new_greying Sweeping e = cc
+new_greying _ e = tt
 
 -- in the phases of marking every job is armed, and one that still owes a nod greys what it writes
 marking_armed : (p : Phase) (armed owes : Bool) → Marking p → Flags p armed owes → armed ≡ true

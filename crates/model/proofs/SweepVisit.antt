@@ -9,7 +9,7 @@ use Rattle.model.specs.Cycle.{swept, swept_cell}
 use Rattle.model.specs.Machine.{Cell, State, at_phase, card_of, colour, free, is_free, slots, upd, used}
 use Rattle.model.specs.Runs.{standing}
 use Rattle.model.proofs.Carried.{Shrinks, cards_move, job_move, leads_move, rec_move}
-use Rattle.model.proofs.Colours.{clash, free_is, free_not}
+use Rattle.model.proofs.Colours.{free_is, free_not}
 use Rattle.model.proofs.Invariant.{Inv, Kept, Live, Marked, RecOk, StandsFor}
 use Rattle.model.proofs.TableLaws.{upd_all, upd_elim}
 
@@ -48,27 +48,22 @@ swept_kept : (cur : ℕ) (x : Cell) → Kept Sweeping (suc cur) cur (swept_cell 
     Kept Sweeping cur cur x × (slots (swept_cell x) ≡ slots x) × (card_of (swept_cell x) ≡ card_of x)
 swept_kept cur free k = absurd (k.in_use refl)
 swept_kept cur (used White n l) k = absurd (k.in_use refl)
-swept_kept cur (used Grey n l) k = (record { in_use = λ e. clash cc; spared = λ e. clash cc }, refl, refl)
-swept_kept cur (used Black n l) k = (record { in_use = λ e. clash cc; spared = λ e. clash cc }, refl, refl)
+swept_kept cur _ k = (record { in_use = λ e. cc; spared = λ e. cc }, refl, refl)
 
 swept_keep : (cur : ℕ) (x : Cell) → Kept Sweeping cur cur x → Kept Sweeping (suc cur) cur (swept_cell x)
 swept_keep cur free k = absurd (k.in_use refl)
 swept_keep cur (used White n l) k = let h = k.spared refl in absurd (omega arith)
-swept_keep cur (used Grey n l) k = record { in_use = λ e. clash cc; spared = λ e. clash cc }
-swept_keep cur (used Black n l) k = record { in_use = λ e. clash cc; spared = λ e. omega arith }
+swept_keep cur (used Grey n l) k = record { in_use = λ e. cc; spared = λ e. cc }
+swept_keep cur (used Black n l) k = record { in_use = λ e. cc; spared = λ e. omega arith }
 
 swept_colour : (cur : ℕ) (x : Cell) → colour x ≢ Some Grey →
     (colour (swept_cell x) ≢ Some Grey) × (colour (swept_cell x) ≢ Some Black)
-swept_colour cur free n = ((λ e. clash cc), (λ e. clash cc))
-swept_colour cur (used White k l) n = ((λ e. clash cc), (λ e. clash cc))
 swept_colour cur (used Grey k l) n = absurd (n refl)
-swept_colour cur (used Black k l) n = ((λ e. clash cc), (λ e. clash cc))
+swept_colour cur _ n = ((λ e. cc), (λ e. cc))
 
 swept_used : (x : Cell) → colour (swept_cell x) ≢ None → colour x ≢ None
 swept_used free n = n
-swept_used (used White k l) n = absurd (n refl)
-swept_used (used Grey k l) n = n
-swept_used (used Black k l) n = λ e. clash cc
+swept_used (used c k l) n = λ e. cc
 
 pub sweep_keeps : (s : State) (b : Book) (place : ℕ → ℕ) (r : ℕ) → Inv (at_phase s Sweeping s.cursor s.rounds) b place →
     Inv (at_phase (swept s) Sweeping (suc s.cursor) r) b (standing place (swept s))
@@ -84,7 +79,7 @@ sweep_keeps s b place r inv = record {
     protects = λ t. absurd t;
   };
   jobs = λ j. job_move j (s.job j) keep (λ t. absurd t) (λ g. g) (inv.jobs j);
-  cards = cards_move sh.kept sh.same_card (record { unlive = unlive; lives = λ k l h. keep _ h; clears = λ q. clash cc })
+  cards = cards_move sh.kept sh.same_card (record { unlive = unlive; lives = λ k l h. keep _ h; clears = λ q. cc })
       inv.cards;
   hands = λ j h. standing_for place (swept s) _ _ (λ n. (keep _ ((inv.jobs j).roots h n)).in_use) (inv.hands j h);
   recs = record {
@@ -117,9 +112,7 @@ sweep_keeps s b place r inv = record {
 
     vac0 : (x : Cell) → colour x ≡ None → colour (swept_cell x) ≡ None
     vac0 free e = refl
-    vac0 (used White k l) e = refl
-    vac0 (used Grey k l) e = e
-    vac0 (used Black k l) e = clash cc
+    vac0 (used c k l) e = cc
 
     less : (d : ℕ) → c ≢ d → d < suc c → d < c
     less d n h = omega arith
@@ -141,7 +134,7 @@ sweep_keeps s b place r inv = record {
     sh = record { kept = λ d k. (old d k).0; same_slots = λ d k. (old d k).1; same_card = λ d k. (old d k).2 }
 
     unlive : (k : ℕ) → Live g Sweeping (s.card k) → Live f Sweeping (s.card k)
-    unlive k l = record { filled = l.filled; not_white = λ q. clash cc }
+    unlive k l = record { filled = l.filled; not_white = λ q. cc }
 
     again : (t : ℕ) → place t ≢ 0 → Kept Sweeping (suc c) (place t) (g (place t)) →
         RecOk s.card (standing place (swept s)) (b.width t) (b.slot t) (b.name t) (g (place t))
@@ -165,10 +158,8 @@ pub sweep_marked : (f : ℕ → Cell) (c d : ℕ) → Marked (colour (upd f c (s
 sweep_marked f c = upd_all (λ d y. Marked (colour y) → Marked (colour (f d))) f c (swept_cell (f c)) (go (f c)) (λ d e h. h)
   where
     go : (x : Cell) → Marked (colour (swept_cell x)) → Marked (colour x)
-    go free h = h
-    go (used White k l) h = absurd h
-    go (used Grey k l) h = tt
     go (used Black k l) h = tt
+    go _ h = h
 
 pub sweep_used : (f : ℕ → Cell) (c d : ℕ) → colour (upd f c (swept_cell (f c)) d) ≢ None → colour (f d) ≢ None
 sweep_used f c = upd_all (λ d y. colour y ≢ None → colour (f d) ≢ None) f c (swept_cell (f c)) (swept_used (f c)) (λ d e n. n)

@@ -4,40 +4,34 @@ use lib.ListN.{length-replicate}
 use Rattle.std.proofs.lemmas.Bool.{cases_eq, cond_both}
 use Rattle.model.specs.declared.Colour.TheVariants.{Black, Grey, White}
 use Rattle.model.specs.declared.Phase.{Phase}
-use Rattle.model.specs.declared.Phase.TheVariants.{Arming, Cleaning, Normal, Parting, Repeat, Scanning, Sweeping, Tracing}
+use Rattle.model.specs.declared.Phase.TheVariants.{Cleaning, Normal, Parting, Repeat, Scanning, Sweeping, Tracing}
 use Rattle.model.specs.Book.{is_named, latest}
 use Rattle.model.specs.Cycle.{new_colour}
 use Rattle.model.specs.Machine.{Card, Cell, Job, at, bears, card_of, colour, slots, upd, used}
 use Rattle.model.specs.Promise.{Bears}
 use Rattle.model.proofs.Carried.{job_move, protected_map}
-use Rattle.model.proofs.Colours.{clash, free_slots, marked_used, some_none}
+use Rattle.model.proofs.Colours.{free_slots, marked_used, some_none}
 use Rattle.model.proofs.Invariant.{CardsOk, ColourOk, HeapOk, JobOk, Kept, Live, Marked, Protected, RecOk, RecsOk, Spared, StandsFor}
 use Rattle.model.proofs.TableLaws.{at_zeros, upd_all, upd_elim, upd_other, upd_same}
 
 new_colour_ok : (p : Phase) (cur c : ℕ) → ColourOk p cur c (Some (new_colour p cur c))
-new_colour_ok Normal cur c = ((λ e. clash cc), (λ e. clash cc))
-new_colour_ok Arming cur c = λ e. clash cc
+new_colour_ok Normal cur c = ((λ e. cc), (λ e. cc))
 new_colour_ok Scanning cur c = tt
-new_colour_ok Tracing cur c = λ h e. clash cc
+new_colour_ok Tracing cur c = λ h e. cc
 new_colour_ok Repeat cur c = tt
-new_colour_ok Cleaning cur c = λ e. clash cc
-new_colour_ok Parting cur c = λ e. clash cc
 new_colour_ok Sweeping cur c = cond_both (ltb c cur) White Black (λ y. (Some y ≢ Some Grey) × (c < cur → Some y ≢ Some Black))
-    (λ t. ((λ e. clash cc), (λ h e. clash cc))) (λ t. ((λ e. clash cc), (λ h. let q = ltb-false c cur t in absurd (omega arith))))
+    (λ t. ((λ e. cc), (λ h e. cc))) (λ t. ((λ e. cc), (λ h. let q = ltb-false c cur t in absurd (omega arith))))
+new_colour_ok _ cur c = λ e. cc
 
 new_spared : (p : Phase) (cur c : ℕ) → Some (new_colour p cur c) ≡ Some White → Spared p cur c
-new_spared Normal cur c e = tt
-new_spared Arming cur c e = tt
-new_spared Scanning cur c e = tt
-new_spared Tracing cur c e = tt
-new_spared Repeat cur c e = tt
-new_spared Cleaning cur c e = clash cc
-new_spared Parting cur c e = clash cc
+new_spared Cleaning cur c e = cc
+new_spared Parting cur c e = cc
 new_spared Sweeping cur c e = cond_both (ltb c cur) White Black (λ y. Some y ≡ Some White → c < cur) (λ t q. ltb-true c cur t)
-    (λ t q. clash cc) e
+    (λ t q. cc) e
+new_spared _ cur c e = tt
 
 new_cleaning : (p : Phase) (cur c : ℕ) → p ≡ Cleaning → Some (new_colour p cur c) ≢ Some White
-new_cleaning p cur c e = subst (λ (q : Phase). Some (new_colour q cur c) ≢ Some White) (sym e) (λ z. clash cc)
+new_cleaning p cur c e = subst (λ (q : Phase). Some (new_colour q cur c) ≢ Some White) (sym e) (λ z. cc)
 
 -- the latest record of a spelling
 pub latest_most : (f : ℕ → Option (List ℕ)) (n : ℕ) (sp : List ℕ) → latest f n sp ≤ n
@@ -103,7 +97,7 @@ module _ (f : ℕ → Cell) (p : Phase) (cur pick k w : ℕ) (vac : colour (f pi
   pub take_unlive : (x : Card) → Live (upd f pick X) p x → Live f p x
   take_unlive x l = record {
     filled = l.filled;
-    not_white = λ e z. l.not_white e (ap colour (take_old X _ (λ v. clash cc)) ∙ z);
+    not_white = λ e z. l.not_white e (ap colour (take_old X _ (λ v. cc)) ∙ z);
   }
 
   take_clear : (card : ℕ → Card) → CardsOk f p cur card → p ≡ Cleaning → (m : ℕ) → 1 ≤ m → m < cur → (card m).record_at ≢ 0 →

@@ -7,7 +7,6 @@ use Rattle.model.specs.Book.{Book}
 use Rattle.model.specs.Cycle.{grey_all, scanned}
 use Rattle.model.specs.Machine.{Cell, State, at, at_phase, card_of, colour, free, painted, slots, upd, used, with_cells}
 use Rattle.model.proofs.Carried.{Shrinks, cards_move, job_move, leads_move, protected_map, recs_move}
-use Rattle.model.proofs.Colours.{clash}
 use Rattle.model.proofs.GreyingKeeps.{Greyer, Repeats, grey_list, greying_keeps, marked_list, used_greyer}
 use Rattle.model.proofs.Invariant.{Inv, Kept, Live, Marked, Protected, Spared, marked}
 use Rattle.model.proofs.TableLaws.{upd_all, upd_elim, upd_other}
@@ -36,7 +35,7 @@ module _ (f : ℕ → Cell) (cur c : ℕ) (n : colour (f c) ≢ None) (all : (i 
       (λ e. (refl, refl))
 
   black_to : (d : ℕ) → colour (f d) ≢ None → colour (g d) ≢ None
-  black_to d h = upd_elim (λ y. colour y ≢ None) f c d (painted Black (f c)) (λ e z. let w = black_colour (f c) n in clash cc)
+  black_to d h = upd_elim (λ y. colour y ≢ None) f c d (painted Black (f c)) (λ e z. let w = black_colour (f c) n in cc)
       (λ e. h)
 
   black_from : (d : ℕ) → colour (g d) ≢ None → colour (f d) ≢ None
@@ -75,7 +74,7 @@ black_keeps s b place c inv n all = record {
   };
   jobs = λ j. job_move j (s.job j) keep (λ t o h z. black_protected f cur c n all ((inv.jobs j).protected t o h z)) (λ g. g)
       (inv.jobs j);
-  cards = cards_move sh.kept sh.same_card (record { unlive = unlive; lives = λ k l h. keep _ h; clears = λ q. clash cc })
+  cards = cards_move sh.kept sh.same_card (record { unlive = unlive; lives = λ k l h. keep _ h; clears = λ q. cc })
       inv.cards;
   hands = inv.hands;
   recs = recs_move sh unlive (black_to f cur c n all) (black_from f cur c n all) inv.recs;
@@ -92,7 +91,7 @@ black_keeps s b place c inv n all = record {
     keep d k = record { in_use = black_to f cur c n all d k.in_use; spared = λ e. tt }
 
     unlive : (k : ℕ) → Live (upd f c (painted Black (f c))) Repeat (s.card k) → Live f Repeat (s.card k)
-    unlive k l = record { filled = l.filled; not_white = λ q. clash cc }
+    unlive k l = record { filled = l.filled; not_white = λ q. cc }
 
     sh : Shrinks f (upd f c (painted Black (f c))) Repeat Repeat cur cur
     sh = record {
@@ -119,4 +118,4 @@ scan_keeps s b place inv rep spare e = black_keeps (at_phase (with_cells s g) Re
     bl = grey_list s.cell (slots (s.cell s.cursor))
 
     used_c : colour (s.cell s.cursor) ≢ None
-    used_c z = clash cc
+    used_c z = cc

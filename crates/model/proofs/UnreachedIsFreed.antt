@@ -145,8 +145,7 @@ cleaning_marked x cur c k = go (colour x) refl
     go : (l : Option Colour) → colour x ≡ l → Marked l
     go None e = absurd (k.in_use e)
     go (Some White) e = absurd (k.spared e)
-    go (Some Grey) e = tt
-    go (Some Black) e = tt
+    go _ e = tt
 
 commit_dooms : (x : World) (t : ℕ) → Untraced x t → x.state.phase ≡ Cleaning → Doomed x t
 commit_dooms x t un e = record {
@@ -195,10 +194,9 @@ begin_untraced x t pick right inv n e = record {
         (phase_is Normal _ (granted_next x begin pick e).0.0) (inv.heap.colours d)
 
     none_marked : (l : Option Colour) → l ≢ Some Grey → l ≢ Some Black → Marked l → ⊥
-    none_marked None g b h = h
-    none_marked (Some White) g b h = h
     none_marked (Some Grey) g b h = g refl
     none_marked (Some Black) g b h = b refl
+    none_marked _ g b h = h
 
 pub frees : (x y z : World) → Run x → (r first last : ℕ) → x.place r ≢ 0 →
     Picks x.state first → Granted x begin first → Through (Unreached r) (next x begin first) y →

@@ -3,7 +3,7 @@
 use Rattle.std.proofs.Common.{◌≡◌, ℕ, zero, suc, ◌+◌, ◌*◌, ◌<◌, ◌≤◌, Bool, true, false, ◌&&◌, T, ◌≢◌, ◌⊎◌, List, sym, refl, ap, ◌∙◌, subst, inl, inr, arith, Option, Some, None}
 use Rattle.std.proofs.lemmas.Bool.{cases_eq, cond_both}
 use Rattle.model.specs.declared.Colour.{Colour}
-use Rattle.model.specs.declared.Colour.TheVariants.{Black, Grey, White}
+use Rattle.model.specs.declared.Colour.TheVariants.{Grey, White}
 use Rattle.model.specs.declared.Phase.{Phase}
 use Rattle.model.specs.declared.Phase.TheVariants.{Repeat, Tracing}
 use Rattle.model.specs.Book.{Book}
@@ -13,7 +13,7 @@ use Rattle.model.specs.Machine.{Card, Cell, Job, State, at, colour, filed, is_tr
 use Rattle.model.specs.Tables.{barrier, filed_on, find_greys, found_into, job_effect, set_slot, settle_on, store_greys_new, stored, taken, vacant_card}
 use Rattle.model.proofs.BarrierKeeps.{greyer_if, repeats_repeating}
 use Rattle.model.proofs.CallsByEffect.{Effect, finds, makes, nods, rows_alone, settles_name, stores}
-use Rattle.model.proofs.Colours.{clash, white_is}
+use Rattle.model.proofs.Colours.{white_is}
 use Rattle.model.proofs.GreyingKeeps.{Greyer, Repeats, Turn, grey_one, greyed_grey, none_greyer, stays, turns, unused_greyer}
 use Rattle.model.proofs.Invariant.{Inv}
 use Rattle.model.proofs.JobRowsKeep.{nod_greys}
@@ -22,10 +22,9 @@ use Rattle.model.proofs.SlotWriteKeeps.{slot_same_colour}
 use Rattle.model.proofs.TableLaws.{upd_elim, upd_same}
 
 abbrev pub weight : Option Colour → ℕ
-weight None = 0
 weight (Some White) = 2
 weight (Some Grey) = 1
-weight (Some Black) = 0
+weight _ = 0
 
 -- the weight of cells 1 to n
 pub total : (ℕ → Cell) → ℕ → ℕ
@@ -33,10 +32,8 @@ total f zero = 0
 total f (suc n) = weight (colour (f (suc n))) + total f n
 
 weight_most : (l : Option Colour) → weight l ≤ 2
-weight_most None = omega arith
 weight_most (Some White) = omega arith
-weight_most (Some Grey) = omega arith
-weight_most (Some Black) = omega arith
+weight_most _ = omega arith
 
 pub total_most : (f : ℕ → Cell) (n : ℕ) → total f n ≤ 2 * n
 unfolding total
@@ -81,7 +78,7 @@ pub record Steady (s s' : State) : Type 0 where
 
 repeats_after : {p q : Phase} → Repeats p q → p ≡ Repeat → Repeats Tracing q
 repeats_after stays e = subst (λ (r : Phase). Repeats Tracing r) (sym e) turns
-repeats_after turns e = clash cc
+repeats_after turns e = cc
 
 repeats_trans : {p q r : Phase} → Repeats p q → Repeats q r → Repeats p r
 repeats_trans stays b = b
@@ -121,7 +118,7 @@ steady_cells s s' size rounds cursor phase lighter = record {
   cursor_is = cursor;
   repeats = subst (λ (p : Phase). Repeats s.phase p) (sym phase) stays;
   lighter = lighter;
-  falls = λ a b. clash cc;
+  falls = λ a b. cc;
 }
 
 pub steady_rows : (s : State) (rows : ℕ → Job) (l : ℕ) → Steady s (with_jobs s rows l)
@@ -162,16 +159,16 @@ steady_grey s true c no_zero inside = record {
   lighter = λ u d. greyer_weight _ _ (grey_one s.cell c d);
   falls = λ e. cond_both (is_white (s.cell c)) (repeating s.phase) s.phase (λ p. p ≡ Repeat →
       total (upd s.cell c (greyed (s.cell c))) s.size < total s.cell s.size) (λ z w. strict (white_is _ z))
-      (λ z w. clash cc);
+      (λ z w. cc);
 }
   where
     strict : colour (s.cell c) ≡ Some White → total (upd s.cell c (greyed (s.cell c))) s.size < total s.cell s.size
     strict z = total_lt s.cell (upd s.cell c (greyed (s.cell c))) s.size c
         (λ d. greyer_weight (s.cell d) (upd s.cell c (greyed (s.cell c)) d) (grey_one s.cell c d)) (pos (cases_eq c 0))
-        (inside c (λ w. clash cc)) less
+        (inside c (λ w. cc)) less
       where
         pos : (c ≡ 0) ⊎ (c ≡ 0 → ⊥) → 1 ≤ c
-        pos (inl w) = let u = ap (λ (m : ℕ). colour (s.cell m)) w ∙ no_zero in clash cc
+        pos (inl w) = let u = ap (λ (m : ℕ). colour (s.cell m)) w ∙ no_zero in cc
         pos (inr w) = omega arith
 
         less : weight (colour (upd s.cell c (greyed (s.cell c)) c)) < weight (colour (s.cell c))
