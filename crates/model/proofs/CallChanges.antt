@@ -47,20 +47,12 @@ pub record Changes (c : Call) (s s' : State) : Type 0 where
 
 -- only the jobs' rows change
 pub rows_change : (c : Call) (s : State) (rows : ℕ → Job) (l : ℕ) → Changes c s (with_jobs s rows l)
-rows_change c s rows l = record { back = λ d k. inl k; names = inl (λ k h. (h, refl)); marks = λ d h. inl h }
+rows_change c s rows l = grind arith
 
 -- records were greyed, each for a reason
 grey_change : (c : Call) (s s' : State) → Greys s.cell s'.cell s.phase s'.phase s.cursor → s'.cursor ≡ s.cursor →
     s'.card ≡ s.card → ((d : ℕ) → Marked (colour (s'.cell d)) → Marked (colour (s.cell d)) ⊎ Touched s s' d) → Changes c s s'
-grey_change c s s' gr cur card marks = record {
-  back = λ d k. inl (grey_unkeep gr d (subst (λ (n : ℕ). Kept s'.phase n d (s'.cell d)) cur k));
-  names = inl (λ k l. (
-    subst (λ (f : ℕ → Card). Live s'.cell s'.phase (f k)) (sym card) (grey_live gr (s.card k) l),
-    ap
-        (λ (f : ℕ → Card). (f k).spelling) card,
-  ));
-  marks = marks;
-}
+grey_change c s s' gr cur card marks = grind arith
 
 module _ (s : State) (b : Book) (place : ℕ → ℕ) (inv : Inv s b place) where
   pub nod_change : (c : Call) (j : ℕ) → Changes c s (nodded s j)

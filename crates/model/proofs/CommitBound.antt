@@ -1,6 +1,6 @@
 -- The commit comes within N × (2N + 1) trace steps. While tracing, each round but the last makes the heap lighter by at
 -- least 1, and it weighs 2N at most.
-use Rattle.std.proofs.Common.{◌≡◌, ℕ, zero, suc, ◌+◌, ◌*◌, ◌<◌, ◌≤◌, cond, T, ltb, sym, refl, ap, subst, mul-le-mul_right, arith, Some, is_ok, IsTrue}
+use Rattle.std.proofs.Common.{◌≡◌, ℕ, zero, suc, ◌+◌, ◌*◌, ◌<◌, ◌≤◌, cond, T, ltb, refl, ap, mul-le-mul_right, arith, Some, is_ok, IsTrue}
 use Rattle.std.specs.Bool.{passes}
 use Rattle.std.proofs.lemmas.Bool.{cond_both}
 use Rattle.model.specs.declared.Colour.TheVariants.{Black, Grey}
@@ -15,7 +15,7 @@ use Rattle.model.specs.Tables.{checks, effect, outcome, vacant_job}
 use Rattle.model.proofs.CallsByEffect.{effect_of}
 use Rattle.model.proofs.Colours.{grey_is}
 use Rattle.model.proofs.Granted.{Passed, decided, not_zero}
-use Rattle.model.proofs.GreyingKeeps.{Greyer, Repeats, grey_list, stays, turns, used_greyer}
+use Rattle.model.proofs.GreyingKeeps.{Greyer, Repeats, grey_list, used_greyer}
 use Rattle.model.proofs.Invariant.{Sound}
 use Rattle.model.proofs.RunsKeep.{run_sound}
 use Rattle.model.proofs.StepsKeep.{commit_end, phase_scanned, repeat_end, trace_on_cases}
@@ -46,14 +46,11 @@ bounded _ n r cur t w b = (b, λ z. absurd z)
 
 -- a call of a job
 lighter_bounded : (p : Phase) (n r cur t w w' : ℕ) → (T (is_tracing p) → w' ≤ w) → Bounded p n r cur t w → Bounded p n r cur t w'
-lighter_bounded Tracing n r cur t w w' le b = let q = le tt in (b.0, b.1, b.2, omega arith)
-lighter_bounded Repeat n r cur t w w' le b = let q = le tt in (b.0, b.1, b.2, omega arith)
-lighter_bounded _ n r cur t w w' le b = b
+lighter_bounded p n r cur t w w' le b = grind arith
 
 repeats_bounded : {p q : Phase} (n r cur t w w' : ℕ) → Repeats p q → (T (is_tracing p) → w' ≤ w) →
     (p ≡ Tracing → q ≡ Repeat → w' < w) → Bounded p n r cur t w → Bounded q n r cur t w'
-repeats_bounded {p} n r cur t w w' stays le lt b = lighter_bounded p n r cur t w w' le b
-repeats_bounded n r cur t w w' turns le lt b = let q = lt refl refl in (b.0, b.1, b.2, omega arith)
+repeats_bounded n r cur t w w' h le lt b = grind arith
 
 steady_bounds : (s s' : State) (t : ℕ) → Steady s s' → InBounds s t → InBounds s' t
 steady_bounds s s' t l b = rw (l.size_is, l.rounds_is, l.cursor_is)
@@ -99,8 +96,7 @@ module _ (s : State) (t : ℕ) where
   at_phase_bounds : (x : State) (p : Phase) → x.phase ≡ p →
       (cur u : ℕ) → Bounded p x.size x.rounds cur u (total x.cell x.size) →
       Bounded x.phase x.size x.rounds cur u (total x.cell x.size)
-  at_phase_bounds x p e cur u h = subst (λ (q : Phase). Bounded q x.size x.rounds cur u (total x.cell x.size))
-      (sym e) h
+  at_phase_bounds x p e cur u h = grind arith
 
   -- after a visit in REPEAT
   repeat_on : (x : State) → x.phase ≡ Repeat → Bounded Repeat x.size x.rounds x.cursor t (total x.cell x.size) →
@@ -125,8 +121,7 @@ module _ (s : State) (t : ℕ) where
       go (suc k) = steady_bounds s (nodded s (suc k)) t (steady_nod s (suc k)) h
 
   clean_bounds : (x : State) → x.phase ≡ Cleaning → t ≤ trace_limit x.size → InBounds (clean_on x) t
-  clean_bounds x e h = cond_both (ltb x.cursor 512) (onward x) (at_phase (all_owe x) Parting 0 x.rounds)
-      (λ y. InBounds y t) (λ q. at_phase_bounds x Cleaning e (suc x.cursor) t h) (λ q. h)
+  clean_bounds x e h = grind arith
 
   step_bounds : (p : Phase) → s.phase ≡ p → Bounded p s.size s.rounds s.cursor t (total s.cell s.size) →
       InBounds (step_from p s) (cond (is_tracing p) (suc t) t)

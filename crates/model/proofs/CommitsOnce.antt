@@ -1,5 +1,5 @@
 -- A cycle has one commit: after it the phase is CLEANING, PARTING or SWEEPING until NORMAL ends the cycle.
-use Rattle.std.proofs.Common.{◌≡◌, ℕ, zero, suc, T, ltb, ◌≢◌, List, [], ◌∷◌, sym, refl, subst}
+use Rattle.std.proofs.Common.{◌≡◌, ℕ, zero, suc, T, ltb, ◌≢◌, List, [], ◌∷◌, sym, refl, subst, arith}
 use Rattle.std.proofs.lemmas.Bool.{cond_both}
 use Rattle.model.specs.declared.Phase.{Phase}
 use Rattle.model.specs.declared.Phase.TheVariants.{Cleaning, Normal, Parting, Sweeping}
@@ -11,7 +11,7 @@ use Rattle.model.specs.Runs.{Commits, Picks, Run, Through, World, more, next, no
 use Rattle.model.specs.Tables.{checks, effect}
 use Rattle.model.proofs.CallsByEffect.{effect_of}
 use Rattle.model.proofs.Granted.{Passed, next_cases}
-use Rattle.model.proofs.GreyingKeeps.{Repeats, stays, turns}
+use Rattle.model.proofs.GreyingKeeps.{Repeats, stays}
 use Rattle.model.proofs.Invariant.{Sound}
 use Rattle.model.proofs.PhaseCases.{phase_is}
 use Rattle.model.proofs.RunsKeep.{next_sound, run_sound, through_sound}
@@ -24,12 +24,7 @@ abbrev late_or_normal : List Phase
 late_or_normal = Normal ∷ late
 
 repeats_late : {p q : Phase} → Repeats p q → T (among late p) → T (among late_or_normal q)
-repeats_late {p} stays t = go p t
-  where
-    go : (p : Phase) → T (among late p) → T (among late_or_normal p)
-    go Normal t = tt
-    go _ t = t
-repeats_late turns t = absurd t
+repeats_late h t = grind arith
 
 abbrev LateOrNormal : State → Type 0
 LateOrNormal s = T (among late_or_normal s.phase)
@@ -60,8 +55,7 @@ call_late x pick inv t step p = step_late x.state x.state.phase refl t
 
 -- what is late and not NORMAL is late
 still_late : (p : Phase) → T (among late_or_normal p) → p ≢ Normal → T (among late p)
-still_late Normal t n = absurd (n refl)
-still_late _ t n = t
+still_late p t n = grind arith
 
 through_late : {x y : World} → Through InCycle x y → Sound x → T (among late x.state.phase) →
     T (among late y.state.phase)

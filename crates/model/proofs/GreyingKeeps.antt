@@ -1,14 +1,14 @@
 -- Greying keeps the invariant, whatever spared records become grey.
-use Rattle.std.proofs.Common.{◌≡◌, ℕ, zero, suc, Bool, ◌≢◌, ◌⊎◌, List, [], ◌∷◌, sym, refl, ap, ◌∙◌, subst, inl, inr, Option, Some, None}
+use Rattle.std.proofs.Common.{◌≡◌, ℕ, zero, suc, Bool, ◌≢◌, ◌⊎◌, List, [], ◌∷◌, sym, refl, ap, ◌∙◌, subst, inl, inr, Option, Some, None, arith}
 use Rattle.model.specs.declared.Colour.{Colour}
 use Rattle.model.specs.declared.Colour.TheVariants.{Black, Grey, White}
 use Rattle.model.specs.declared.Phase.{Phase}
 use Rattle.model.specs.declared.Phase.TheVariants.{Cleaning, Repeat, Tracing}
 use Rattle.model.specs.Book.{Book}
 use Rattle.model.specs.Cycle.{grey_all, greyed}
-use Rattle.model.specs.Machine.{Card, Cell, Job, State, at, at_phase, card_of, colour, free, slots, upd, used, with_cells}
+use Rattle.model.specs.Machine.{Card, Cell, Job, State, at, at_phase, card_of, colour, slots, upd, with_cells}
 use Rattle.model.proofs.Carried.{Shrinks, cards_move, job_move, leads_move, protected_map, recs_move}
-use Rattle.model.proofs.Colours.{free_white, grey_white}
+use Rattle.model.proofs.Colours.{grey_white}
 use Rattle.model.proofs.Invariant.{CardsOk, ColourOk, Flags, Greying, HeapOk, Inv, JobOk, Kept, Live, Marked, Marking, Protected, Spared}
 use Rattle.model.proofs.TableLaws.{upd_elim}
 
@@ -23,31 +23,19 @@ pub record Greyer (x y : Cell) : Type 0 where
   pub how : Turn (colour x) (colour y)
 
 pub greyer_refl : (x : Cell) → Greyer x x
-greyer_refl x = record { same_slots = refl; same_card = refl; how = inl refl }
+greyer_refl x = grind arith
 
 greyer_trans : {x y z : Cell} → Greyer x y → Greyer y z → Greyer x z
-greyer_trans {x} {y} {z} a b = record {
-  same_slots = b.same_slots ∙ a.same_slots;
-  same_card = b.same_card ∙ a.same_card;
-  how = go a.how b.how;
-}
-  where
-    go : Turn (colour x) (colour y) → Turn (colour y) (colour z) → Turn (colour x) (colour z)
-    go (inl p) (inl q) = inl (q ∙ p)
-    go (inl p) (inr q) = inr (sym p ∙ q.0, q.1)
-    go (inr p) (inl q) = inr (p.0, q ∙ p.1)
-    go (inr p) (inr q) = inr (p.0, q.1)
+greyer_trans a b = grind arith
 
 pub greyer_greyed : (x : Cell) → Greyer x (greyed x)
-greyer_greyed (used White k l) = record { same_slots = refl; same_card = refl; how = inr (refl, refl) }
-greyer_greyed _ = greyer_refl _
+greyer_greyed x = grind arith
 
 abbrev pub AllGreyer : (ℕ → Cell) → (ℕ → Cell) → Type 0
 AllGreyer f g = (d : ℕ) → Greyer (f d) (g d)
 
 pub grey_one : (f : ℕ → Cell) (c : ℕ) → AllGreyer f (upd f c (greyed (f c)))
-grey_one f c d = upd_elim (λ y. Greyer (f d) y) f c d (greyed (f c))
-    (λ e. subst (λ (m : ℕ). Greyer (f m) (greyed (f c))) e (greyer_greyed (f c))) (λ n. greyer_refl (f d))
+grey_one f c = grind arith
 
 pub grey_list : (f : ℕ → Cell) (l : List ℕ) → AllGreyer f (grey_all f l)
 unfolding grey_all
@@ -55,52 +43,29 @@ grey_list f [] d = greyer_refl (f d)
 grey_list f (v ∷ vs) d = greyer_trans (grey_one f v d) (grey_list (upd f v (greyed (f v))) vs d)
 
 pub marked_greyer : {x y : Cell} → Greyer x y → Marked (colour x) → Marked (colour y)
-marked_greyer {x} {y} a l = go a.how
-  where
-    go : Turn (colour x) (colour y) → Marked (colour y)
-    go (inl e) = subst Marked (sym e) l
-    go (inr e) = subst Marked (sym e.1) tt
+marked_greyer a l = grind arith
 
 pub used_greyer : {x y : Cell} → Greyer x y → colour x ≢ None → colour y ≢ None
-used_greyer {x} {y} a n v = go a.how
-  where
-    go : Turn (colour x) (colour y) → ⊥
-    go (inl e) = n (sym e ∙ v)
-    go (inr e) = cc
+used_greyer a n = grind arith
 
 pub unused_greyer : {x y : Cell} → Greyer x y → colour y ≢ None → colour x ≢ None
-unused_greyer {x} {y} a n v = go a.how
-  where
-    go : Turn (colour x) (colour y) → ⊥
-    go (inl e) = n (e ∙ v)
-    go (inr e) = cc
+unused_greyer a n = grind arith
 
 black_greyer : {x y : Cell} → Greyer x y → colour y ≡ Some Black → colour x ≡ Some Black
-black_greyer {x} {y} a v = go a.how
-  where
-    go : Turn (colour x) (colour y) → colour x ≡ Some Black
-    go (inl e) = sym e ∙ v
-    go (inr e) = cc
+black_greyer a v = grind arith
 
 pub none_greyer : {x y : Cell} → Greyer x y → colour x ≡ None → colour y ≡ None
-none_greyer {x} {y} a v = go a.how
-  where
-    go : Turn (colour x) (colour y) → colour y ≡ None
-    go (inl e) = e ∙ v
-    go (inr e) = absurd (free_white v e.0)
+none_greyer a v = grind arith
 
 -- after greying, a used cell is grey or black
 marked_greyed : (x : Cell) → colour x ≢ None → Marked (colour (greyed x))
-marked_greyed free n = absurd (n refl)
-marked_greyed (used White k l) n = tt
-marked_greyed _ n = tt
+marked_greyed x n = grind arith
 
 pub greyed_grey : (x : Cell) → colour x ≡ Some White → colour (greyed x) ≡ Some Grey
-greyed_grey (used White k l) e = refl
-greyed_grey _ e = cc
+greyed_grey x e = grind arith
 
 pub marked_one : (f : ℕ → Cell) (c : ℕ) → colour (f c) ≢ None → Marked (colour (upd f c (greyed (f c)) c))
-marked_one f c n = upd_elim (λ y. Marked (colour y)) f c c (greyed (f c)) (λ e. marked_greyed (f c) n) (λ q. absurd (q refl))
+marked_one f c n = grind arith
 
 pub marked_list : (f : ℕ → Cell) (l : List ℕ) (i : ℕ) → at l i ≢ 0 → colour (f (at l i)) ≢ None →
     Marked (colour (grey_all f l (at l i)))
@@ -137,32 +102,25 @@ pub data Repeats : Phase → Phase → Type 0 where
   turns : Repeats Tracing Repeat
 
 repeats_spared : {p q : Phase} (cur d : ℕ) → Repeats p q → Spared p cur d → Spared q cur d
-repeats_spared cur d stays s = s
-repeats_spared cur d turns s = tt
+repeats_spared cur d h s = grind arith
 
 repeats_unspared : {p q : Phase} (cur d : ℕ) → Repeats p q → Spared q cur d → Spared p cur d
-repeats_unspared cur d stays s = s
-repeats_unspared cur d turns s = tt
+repeats_unspared cur d h s = grind arith
 
 pub repeats_marking : {p q : Phase} → Repeats p q → Marking q → Marking p
-repeats_marking stays t = t
-repeats_marking turns t = tt
+repeats_marking h t = grind arith
 
 pub repeats_greying : {p q : Phase} → Repeats p q → Greying p → Greying q
-repeats_greying stays t = t
-repeats_greying turns t = tt
+repeats_greying h t = grind arith
 
 repeats_flags : {p q : Phase} (a o : Bool) → Repeats p q → Flags p a o → Flags q a o
-repeats_flags a o stays t = t
-repeats_flags a o turns t = t
+repeats_flags a o h t = grind arith
 
 repeats_cleaning : {p q : Phase} → Repeats p q → p ≡ Cleaning → q ≡ Cleaning
-repeats_cleaning stays e = e
-repeats_cleaning turns e = cc
+repeats_cleaning h e = grind arith
 
 repeats_uncleaning : {p q : Phase} → Repeats p q → q ≡ Cleaning → p ≡ Cleaning
-repeats_uncleaning stays e = e
-repeats_uncleaning turns e = cc
+repeats_uncleaning h e = grind arith
 
 -- cells and phase before and after some records were greyed: only spared ones
 pub record Greys (f g : ℕ → Cell) (p q : Phase) (cur : ℕ) : Type 0 where
@@ -181,47 +139,23 @@ greys_refl f p cur = record {
 
 module _ {f g : ℕ → Cell} {p q : Phase} {cur : ℕ} (gr : Greys f g p q cur) where
   pub grey_keep : (d : ℕ) → Kept p cur d (f d) → Kept q cur d (g d)
-  grey_keep d k = record { in_use = used_greyer (gr.greyer d) k.in_use; spared = λ e. go e (gr.greyer d).how }
-    where
-      go : colour (g d) ≡ Some White → Turn (colour (f d)) (colour (g d)) → Spared q cur d
-      go e (inl h) = repeats_spared cur d gr.repeats (k.spared (sym h ∙ e))
-      go e (inr h) = absurd (grey_white h.1 e)
+  grey_keep d k = grind arith
 
   pub grey_unkeep : (d : ℕ) → Kept q cur d (g d) → Kept p cur d (f d)
-  grey_unkeep d k = record { in_use = unused_greyer (gr.greyer d) k.in_use; spared = λ e. go e (gr.greyer d).how }
-    where
-      go : colour (f d) ≡ Some White → Turn (colour (f d)) (colour (g d)) → Spared p cur d
-      go e (inl h) = repeats_unspared cur d gr.repeats (k.spared (h ∙ e))
-      go e (inr h) = gr.spare d e h.1
+  grey_unkeep d k = grind arith
 
   pub grey_live : (x : Card) → Live f p x → Live g q x
-  grey_live x l = record {
-    filled = l.filled;
-    not_white = λ e z. go (l.not_white (repeats_uncleaning gr.repeats e)) z (gr.greyer x.record_at).how;
-  }
-    where
-      go : {a b : Option Colour} → a ≢ Some White → b ≡ Some White → Turn a b → ⊥
-      go n z (inl h) = n (sym h ∙ z)
-      go n z (inr h) = n h.0
+  grey_live x l = grind arith
 
   grey_unlive : (x : Card) → Live g q x → Live f p x
-  grey_unlive x l = record { filled = l.filled; not_white = λ e z. go e z (gr.greyer x.record_at).how }
-    where
-      go : p ≡ Cleaning → colour (f x.record_at) ≡ Some White → Turn (colour (f x.record_at)) (colour (g x.record_at)) →
-          ⊥
-      go e z (inl h) = l.not_white (repeats_cleaning gr.repeats e) (h ∙ z)
-      go e z (inr h) = subst (λ (r : Phase). Spared r cur x.record_at) e (gr.spare x.record_at z h.1)
+  grey_unlive x l = grind arith
 
   grey_protected : {c : ℕ} → Protected f c → Protected g c
   grey_protected = protected_map f g (λ d l. marked_greyer (gr.greyer d) l)
       (λ r i n z. inr ((λ e. n (black_greyer (gr.greyer r) e)), ap (λ (l : List ℕ). at l i) (gr.greyer r).same_slots))
 
   grey_shrinks : Shrinks f g p q cur cur
-  grey_shrinks = record {
-    kept = grey_unkeep;
-    same_slots = λ d k. (gr.greyer d).same_slots;
-    same_card = λ d k. (gr.greyer d).same_card;
-  }
+  grey_shrinks = grind arith
 
   grey_heap : (size : ℕ) → HeapOk size f p cur → HeapOk size g q cur
   grey_heap size ok = record {

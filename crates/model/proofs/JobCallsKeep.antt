@@ -1,13 +1,12 @@
 -- Calls of a job that make no record and grey none keep the invariant: open, close, park, wake, nod, load, copy, drop
 -- and follow.
-use Rattle.std.proofs.Common.{◌≡◌, ℕ, suc, ◌≤◌, true, false, not, eqb, ◌≢◌, ◌⊎◌, List, [], ◌∷◌, Result, sym, refl, ◌∙◌, subst, inl, inr, Some}
+use Rattle.std.proofs.Common.{◌≡◌, ℕ, suc, ◌≤◌, true, false, not, eqb, ◌≢◌, ◌⊎◌, List, [], ◌∷◌, Result, sym, refl, ◌∙◌, subst, inl, inr, Some, arith}
 use Rattle.std.specs.Result.{result_unwrap_or}
 use borrow.Author.Tests.{eqb-false, not-true}
 use Rattle.std.proofs.lemmas.Bool.{cond_both}
 use Rattle.refusal.specs.declared.Refusal.{Refusal}
 use Rattle.model.specs.declared.Colour.TheVariants.{Black}
 use Rattle.model.specs.declared.JobState.{JobState}
-use Rattle.model.specs.declared.JobState.TheVariants.{Closed}
 use Rattle.model.specs.Book.{Book, hold, led}
 use Rattle.model.specs.Calls.{copy, drop_hand, follow, load}
 use Rattle.model.specs.Machine.{Job, State, at, closed_row, colour, empty_hands, hand, held, is_open, is_parked, set_hand, set_job, slots, upd, with_jobs}
@@ -15,12 +14,11 @@ use Rattle.model.specs.Tables.{job_checks, opened_job, slot_ok, vacant_job, walk
 use Rattle.model.proofs.Colours.{black_or}
 use Rattle.model.proofs.Granted.{Passed, hand_range, not_zero}
 use Rattle.model.proofs.Invariant.{Inv, Keeps, Marking, Protected, StandsFor, via}
-use Rattle.model.proofs.JobRowsKeep.{MayHold, at_none, close_ok, hand_keeps, open_ok, row_alone_keeps, row_keeps, running_open, stand_ok}
+use Rattle.model.proofs.JobRowsKeep.{MayHold, at_none, hand_keeps, open_ok, row_alone_keeps, running_open}
 use Rattle.model.proofs.TableLaws.{vacant_passes, vacant_range}
 
 pub parked_open : (t : JobState) → is_parked t ≡ true → is_open t ≡ true
-parked_open Closed h = h
-parked_open _ h = refl
+parked_open t h = grind arith
 
 module _ (s : State) (b : Book) (place : ℕ → ℕ) (inv : Inv s b place) where
   pub open_keeps : not (eqb (vacant_job s) 0) ≡ true →
@@ -41,20 +39,15 @@ module _ (s : State) (b : Book) (place : ℕ → ℕ) (inv : Inv s b place) wher
       rel g = subst (λ (v : ℕ). StandsFor place (b.holds k g) v) ((inv.jobs k).shut shut g ∙ sym (at_none g)) (inv.hands k g)
 
   pub close_keeps : (j : ℕ) → Inv (set_job s j closed_row) (record b { holds = upd b.holds j (λ h. 0) }) place
-  close_keeps j = row_keeps s b place j s.last_job closed_row (λ h. 0) inv inv.lasts.1
-      (close_ok s.cell s.phase s.cursor j) (λ g. record {
-        is = at_none g ∙ sym inv.recs.none_at;
-        none_is = λ z. refl;
-      })
+  close_keeps j = grind arith
 
   pub status_keeps : (j : ℕ) (t : JobState) → is_open t ≡ true → is_open (s.job j).status ≡ true →
       Inv (set_job s j (record (s.job j) { status = t })) b place
-  status_keeps j t o w = row_alone_keeps s b place j s.last_job (record (s.job j) { status = t }) inv inv.lasts.1
-      (stand_ok s.cell s.phase s.cursor j (s.job j) t o w (inv.jobs j)) (inv.hands j)
+  status_keeps j t o w = grind arith
 
   -- what a hand holds may go into another hand of the job
   held_may : (j g : ℕ) → MayHold s.cell s.phase s.cursor (s.job j) place (b.holds j g) (hand s j g)
-  held_may j g = record { rel = inv.hands j g; kept = (inv.jobs j).roots g; safe = λ t o. (inv.jobs j).protected t o g }
+  held_may j g = grind arith
 
   -- and so may what a slot of such a record holds
   slot_may : (row : Job) (r c i : ℕ) → c ≢ 0 → MayHold s.cell s.phase s.cursor row place r c →

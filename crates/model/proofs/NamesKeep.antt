@@ -1,10 +1,9 @@
 -- Find, make and settle keep the invariant.
-use Rattle.std.proofs.Common.{◌≡◌, ℕ, suc, ◌≤◌, Bool, true, false, not, ◌≢◌, List, replicate, sym, refl, ap, ◌∙◌, subst, inl, inr, arith, Option, Some, None, bytes_eq}
+use Rattle.std.proofs.Common.{◌≡◌, ℕ, suc, ◌≤◌, Bool, true, false, ◌≢◌, List, replicate, sym, refl, ap, ◌∙◌, subst, inl, inr, arith, Option, Some, None, bytes_eq}
 use Rattle.std.proofs.lemmas.Slice.Eq.{bytes_eq-Decides}
 use Rattle.std.proofs.lemmas.Bool.{cases_Bool}
 use Rattle.model.specs.declared.Colour.TheVariants.{White}
 use Rattle.model.specs.declared.Phase.{Phase}
-use Rattle.model.specs.declared.Phase.TheVariants.{Cleaning, Normal, Parting, Sweeping}
 use Rattle.model.specs.Book.{Book, bearer, hold, is_named, latest, new_record}
 use Rattle.model.specs.Calls.{Spelling, find, make, text}
 use Rattle.model.specs.Cycle.{grey_if, new_colour}
@@ -17,23 +16,18 @@ use Rattle.model.proofs.Granted.{Passed, hand_range, not_zero}
 use Rattle.model.proofs.GreyingKeeps.{Greys, grey_keep, repeats_marking}
 use Rattle.model.proofs.Invariant.{Greying, Inv, Keeps, Kept, Live, LiveCard, Marked, Marking, marked}
 use Rattle.model.proofs.JobRowsKeep.{MayHold, hand_keeps, running_open}
-use Rattle.model.proofs.PhaseCases.{marking_cases}
 use Rattle.model.proofs.TableLaws.{upd_all, upd_other, upd_same, vacant_passes, vacant_range}
 use Rattle.model.proofs.TakingKeeps.{file_cards, latest_most, latest_new, latest_old, new_kept, not_empty, take_cards, take_heap, take_job, take_recs, take_rel, take_unlive}
 
 -- find greys only where calls grey, and wherever a record must be protected
 pub finds_greying : (p : Phase) (owes : Bool) → find_greys p owes ≡ true → Greying p
-finds_greying Normal owes e = cc
-finds_greying Cleaning owes e = cc
-finds_greying Parting owes e = cc
-finds_greying Sweeping owes e = cc
-finds_greying _ owes e = tt
+finds_greying p owes e = grind arith
 
 marking_greys : (p : Phase) (owes : Bool) → owes ≡ false → Marking p → find_greys p owes ≡ true
-marking_greys p owes e = marking_cases (λ q. find_greys q owes ≡ true) (ap not e) refl refl p
+marking_greys p owes e h = grind arith
 
 new_marked : (p : Phase) (cur c : ℕ) → Marking p → Marked (Some (new_colour p cur c))
-new_marked p cur c = marking_cases (λ q. Marked (Some (new_colour q cur c))) tt tt tt p
+new_marked p cur c h = grind arith
 
 module _ (s : State) (b : Book) (place : ℕ → ℕ) (inv : Inv s b place) where
   -- the record on a live card goes into a hand

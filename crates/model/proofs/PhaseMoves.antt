@@ -1,7 +1,7 @@
 -- The phase moves on, while cells and cards stay: every such move keeps the invariant, the commit among them.
-use Rattle.std.proofs.Common.{◌≡◌, ℕ, suc, ◌<◌, ◌≤◌, Bool, true, false, cond, ◌&&◌, ◌≢◌, ◌⊎◌, sym, refl, ap, ◌∙◌, subst, inl, inr, arith, Option, Some, None}
+use Rattle.std.proofs.Common.{◌≡◌, ℕ, suc, ◌<◌, ◌≤◌, Bool, true, false, cond, ◌&&◌, ◌≢◌, refl, subst, inl, inr, arith, Option, Some, None}
 use borrow.Author.Tests.{both_ways}
-use Rattle.std.proofs.lemmas.Bool.{cases_Bool, cases_eq}
+use Rattle.std.proofs.lemmas.Bool.{cases_eq}
 use Rattle.model.specs.declared.Colour.{Colour}
 use Rattle.model.specs.declared.Colour.TheVariants.{Black, Grey, White}
 use Rattle.model.specs.declared.JobState.{JobState}
@@ -12,7 +12,6 @@ use Rattle.model.specs.Book.{Book}
 use Rattle.model.specs.Cycle.{all_owe, owes_as, owing}
 use Rattle.model.specs.Machine.{Job, State, at, at_phase, colour, is_open, is_parked, is_running, slots, with_jobs}
 use Rattle.model.proofs.Carried.{cards_move, recs_move}
-use Rattle.model.proofs.Colours.{some_none}
 use Rattle.model.proofs.Invariant.{ColourOk, Flags, Inv, Keeps, Kept, Live, LiveCard, Marked, Marking, Protected, Spared, marked, via}
 use Rattle.model.proofs.TableLaws.{first_none}
 
@@ -58,26 +57,15 @@ record PhaseMove (s : State) (t : Bool) (q : Phase) (cur : ℕ) : Type 0 where
 even : (s : State) (q : Phase) (cur : ℕ) → ((d : ℕ) → colour (s.cell d) ≡ Some White → Spared q cur d →
     Spared s.phase s.cursor d) → ((d : ℕ) → colour (s.cell d) ≡ Some White → Spared s.phase s.cursor d →
     Spared q cur d) → KeptMove s q cur
-even s q cur unspare spare = record {
-  unspare = unspare;
-  hand = λ j h n k. keep _ k;
-  slot = λ c i k n u. keep _ u;
-  card = λ k l u. keep _ u;
-}
-  where
-    keep : (d : ℕ) → Keeps s d → Kept q cur d (s.cell d)
-    keep d k = record { in_use = k.in_use; spared = λ e. spare d e (k.spared e) }
+even s q cur unspare spare = grind arith
 
 -- neither phase is CLEANING
 not_cleaning : (s : State) (q : Phase) (cur : ℕ) → s.phase ≢ Cleaning → q ≢ Cleaning → CardMove s q cur
-not_cleaning s q cur n m = record {
-  unlive = λ k l. record { filled = l.filled; not_white = λ e. absurd (n e) };
-  clears = λ e. absurd (m e);
-}
+not_cleaning s q cur n m = grind arith
 
 -- the new phase is none of marking
 not_marking : (s : State) (t : Bool) (q : Phase) → (Marking q → ⊥) → MarkingMove s t q
-not_marking s t q n = record { protects = λ m. absurd (n m); protected = λ m. absurd (n m) }
+not_marking s t q n = grind arith
 
 phase_keeps : (s : State) (b : Book) (place : ℕ → ℕ) (t : Bool) (q : Phase) (cur r : ℕ) → Inv s b place → PhaseMove s t q cur →
     Inv (moved s t q cur r) b place
@@ -130,11 +118,7 @@ no_owes s b place inv p r j o = go (s.job j).status (s.job j).owes refl o
 -- a hand of a job that is not open is empty, and the other hands are protected
 all_protected : (s : State) (b : Book) (place : ℕ → ℕ) → Inv s b place → Marking s.phase → NoneOwe s →
     (j h : ℕ) → at (s.job j).hands h ≢ 0 → Protected s.cell (at (s.job j).hands h)
-all_protected s b place inv t no_owed j h n = go (cases_Bool (is_open (s.job j).status))
-  where
-    go : (is_open (s.job j).status ≡ true) ⊎ (is_open (s.job j).status ≡ false) → Protected s.cell (at (s.job j).hands h)
-    go (inl o) = (inv.jobs j).protected t (no_owed j o) h n
-    go (inr o) = absurd (n ((inv.jobs j).shut o h))
+all_protected s b place inv t no_owed j h n = grind arith
 
 module _ (s : State) (b : Book) (place : ℕ → ℕ) (inv : Inv s b place) where
   -- the store, its phase written out
@@ -142,7 +126,7 @@ module _ (s : State) (b : Book) (place : ℕ → ℕ) (inv : Inv s b place) wher
   from p = at_phase s p s.cursor s.rounds
 
   pub sound_from : (p : Phase) → s.phase ≡ p → Inv (from p) b place
-  sound_from p e = subst (λ (q : Phase). Inv (at_phase s q s.cursor s.rounds) b place) e inv
+  sound_from p e = grind arith
 
   move : (p : Phase) → s.phase ≡ p → (t : Bool) (q : Phase) (cur r : ℕ) → PhaseMove (from p) t q cur →
       Inv (moved s t q cur r) b place
@@ -150,84 +134,28 @@ module _ (s : State) (b : Book) (place : ℕ → ℕ) (inv : Inv s b place) wher
 
   -- cell 0 has no colour
   zero_not : (d : ℕ) (c : Colour) → d < 1 → colour (s.cell d) ≢ Some c
-  zero_not d c h z = let w : d ≡ 0 = omega arith in some_none c (sym z ∙ ap (λ (m : ℕ). colour (s.cell m)) w
-      ∙ inv.heap.no_zero)
+  zero_not d c h = grind arith
 
   pub begin_keeps : s.phase ≡ Normal → Inv (at_phase (all_owe s) Arming 0 0) b place
-  begin_keeps e = move Normal e true Arming 0 0 (record {
-    kept = even (from Normal) Arming 0 (λ d a z. tt) (λ d a z. tt);
-    cards = not_cleaning (from Normal) Arming 0 (λ q. cc) (λ q. cc);
-    marking = not_marking (from Normal) true Arming (λ m. m);
-    colours = λ d. ((sound_from Normal e).heap.colours d).1;
-    flags = λ j o q. absurd (both_ways _ q o);
-  })
+  begin_keeps e = grind arith
 
   pub to_scanning : s.phase ≡ Arming → (r : ℕ) → NoneOwe s → Inv (at_phase (all_owe s) Scanning 0 r) b place
-  to_scanning e r none_owe = move Arming e true Scanning 0 r (record {
-    kept = even (from Arming) Scanning 0 (λ d a z. tt) (λ d a z. tt);
-    cards = not_cleaning (from Arming) Scanning 0 (λ q. cc) (λ q. cc);
-    marking = record {
-      protects = λ m c a. absurd ((sound_from Arming e).heap.colours c a);
-      protected = λ m j o h n. absurd (n ((inv.jobs j).shut o h));
-    };
-    colours = λ d. tt;
-    flags = λ j o. ((sound_from Arming e).jobs j).flags o (none_owe j o);
-  })
+  to_scanning e r none_owe = grind arith
 
   pub to_tracing : s.phase ≡ Scanning → (r : ℕ) → NoneOwe s → Inv (at_phase s Tracing 1 r) b place
-  to_tracing e r none_owe = move Scanning e false Tracing 1 r (record {
-    kept = even (from Scanning) Tracing 1 (λ d a z. tt) (λ d a z. tt);
-    cards = not_cleaning (from Scanning) Tracing 1 (λ q. cc) (λ q. cc);
-    marking = record {
-      protects = (sound_from Scanning e).heap.protects;
-      protected = λ m j o h n. all_protected (from Scanning) b place (sound_from Scanning e) tt none_owe j h n;
-    };
-    colours = λ d. zero_not d Grey;
-    flags = λ j o. (((sound_from Scanning e).jobs j).flags o, none_owe j o);
-  })
+  to_tracing e r none_owe = grind arith
 
   -- a trace step goes on to the next cell
   pub trace_next : s.phase ≡ Tracing → (r : ℕ) → colour (s.cell s.cursor) ≢ Some Grey →
       Inv (at_phase s Tracing (suc s.cursor) r) b place
-  trace_next e r not_grey = move Tracing e false Tracing (suc s.cursor) r (record {
-    kept = even (from Tracing) Tracing (suc s.cursor) (λ d a z. tt) (λ d a z. tt);
-    cards = not_cleaning (from Tracing) Tracing (suc s.cursor) (λ q. cc) (λ q. cc);
-    marking = record {
-      protects = (sound_from Tracing e).heap.protects;
-      protected = λ m j. ((sound_from Tracing e).jobs j).protected m;
-    };
-    colours = λ d h. elim (cases_eq d s.cursor) [
-      | inl q ↦ (λ z. not_grey (ap (λ (m : ℕ). colour (s.cell m)) (sym q) ∙ z))
-      | inr q ↦ (sound_from Tracing e).heap.colours d
-          (omega arith)
-    ];
-    flags = λ j o. ((sound_from Tracing e).jobs j).flags o;
-  })
+  trace_next e r not_grey = grind arith
 
   pub repeat_next : s.phase ≡ Repeat → (cur r : ℕ) → Inv (at_phase s Repeat cur r) b place
-  repeat_next e cur r = move Repeat e false Repeat cur r (record {
-    kept = even (from Repeat) Repeat cur (λ d a z. tt) (λ d a z. tt);
-    cards = not_cleaning (from Repeat) Repeat cur (λ q. cc) (λ q. cc);
-    marking = record {
-      protects = (sound_from Repeat e).heap.protects;
-      protected = λ m j. ((sound_from Repeat e).jobs j).protected m;
-    };
-    colours = λ d. tt;
-    flags = λ j o. ((sound_from Repeat e).jobs j).flags o;
-  })
+  repeat_next e cur r = grind arith
 
   -- a new round
   pub round_next : s.phase ≡ Repeat → (r : ℕ) → Inv (at_phase s Tracing 1 r) b place
-  round_next e r = move Repeat e false Tracing 1 r (record {
-    kept = even (from Repeat) Tracing 1 (λ d a z. tt) (λ d a z. tt);
-    cards = not_cleaning (from Repeat) Tracing 1 (λ q. cc) (λ q. cc);
-    marking = record {
-      protects = (sound_from Repeat e).heap.protects;
-      protected = λ m j. ((sound_from Repeat e).jobs j).protected m;
-    };
-    colours = λ d. zero_not d Grey;
-    flags = λ j o. ((sound_from Repeat e).jobs j).flags o;
-  })
+  round_next e r = grind arith
 
   -- the commit: nothing is grey, so what is protected is black
   protected_black : ((d : ℕ) → colour (s.cell d) ≢ Some Grey) → {c : ℕ} → Protected s.cell c → colour (s.cell c) ≡ Some Black
@@ -315,14 +243,4 @@ module _ (s : State) (b : Book) (place : ℕ → ℕ) (inv : Inv s b place) wher
   })
 
   pub to_normal : s.phase ≡ Sweeping → (r : ℕ) → s.size < s.cursor → Inv (at_phase s Normal 0 r) b place
-  to_normal e r past = move Sweeping e false Normal 0 r (record {
-    kept = even (from Sweeping) Normal 0 (λ d a z. let h = inv.heap.inside d (λ q. cc) in omega arith) (λ d a z. tt);
-    cards = not_cleaning (from Sweeping) Normal 0 (λ q. cc) (λ q. cc);
-    marking = not_marking (from Sweeping) false Normal (λ m. m);
-    colours = λ d. (
-      ((sound_from Sweeping e).heap.colours d).0,
-      λ z. let h = inv.heap.inside d (λ q. cc) in ((sound_from
-          Sweeping e).heap.colours d).1 (omega arith) z,
-    );
-    flags = λ j o. ((sound_from Sweeping e).jobs j).flags o;
-  })
+  to_normal e r past = grind arith

@@ -1,5 +1,5 @@
 -- Every call keeps the invariant, and so does every run.
-use Rattle.std.proofs.Common.{◌≡◌, ℕ, zero, suc, false, cond, not, ltb, refl, ap, subst, arith, ltb-false, ltb-true, eq-eqb}
+use Rattle.std.proofs.Common.{◌≡◌, ℕ, zero, suc, false, cond, not, ltb, refl, ap, subst, arith, ltb-false, eq-eqb}
 use Rattle.std.proofs.lemmas.Bool.{cond_both}
 use Rattle.model.specs.declared.JobState.TheVariants.{Parked, Running}
 use Rattle.model.specs.declared.Phase.TheVariants.{Normal}
@@ -12,7 +12,7 @@ use Rattle.model.proofs.CardsRead.{filed_live}
 use Rattle.model.proofs.Granted.{Passed, hand_range, next_cases, not_zero, or_second}
 use Rattle.model.proofs.Invariant.{Inv, LiveCard, Sound}
 use Rattle.model.proofs.JobCallsKeep.{close_keeps, copy_keeps, drop_keeps, follow_keeps, load_keeps, open_keeps, parked_open, status_keeps}
-use Rattle.model.proofs.JobRowsKeep.{at_none, nod_keeps, running_open}
+use Rattle.model.proofs.JobRowsKeep.{nod_keeps, running_open}
 use Rattle.model.proofs.NamesKeep.{find_keeps, found_keeps, make_keeps, settle_makes}
 use Rattle.model.proofs.PhaseCases.{phase_is}
 use Rattle.model.proofs.PhaseMoves.{begin_keeps}
@@ -24,8 +24,7 @@ module _ (s : State) (b : Book) (place : ℕ → ℕ) where
   -- a call that makes no record leaves the cells given to records
   old_places : (s' : State) (b' : Book) (n pick : ℕ) → Inv s' b' (standing place s') →
       Inv s' b' (standing (cond (ltb n n) (upd place n pick) place) s')
-  old_places s' b' n pick inv = cond_both (ltb n n) (upd place n pick) place (λ f. Inv s' b' (standing f s'))
-      (λ e. let h = ltb-true n n e in absurd (omega arith)) (λ e. inv)
+  old_places s' b' n pick inv = grind arith
 
   unfreed : (s' : State) (b' : Book) (n pick : ℕ) → Inv s' b' place →
       Inv s' b' (standing (cond (ltb n n) (upd place n pick) place) s')
@@ -94,42 +93,7 @@ module _ (x : World) (pick : ℕ) (inv : Sound x) (right : Picks x.state pick) w
   next_sound c = next_cases x c pick Sound inv (granted_keeps c)
 
 new_sound : (n w : ℕ) → Sound (new_world n w)
-new_sound n w = record {
-  heap = record {
-    no_zero = refl;
-    inside = λ c h. absurd (h refl);
-    colours = λ c. ((λ e. cc), (λ e. cc));
-    leads = λ c k. absurd (k.in_use refl);
-    protects = λ t. absurd t;
-  };
-  jobs = λ j. record {
-    range = λ e. cc;
-    eight = refl;
-    shut = λ e. at_none;
-    flags = λ o. cc;
-    roots = λ h z. absurd (z (at_none h));
-    protected = λ t. absurd t;
-  };
-  cards = record {
-    ranged = λ k h. absurd (h refl);
-    live = λ k l. absurd (l.filled refl);
-    back = λ c k. absurd (k.in_use refl);
-    distinct = λ k m l. absurd (l.filled refl);
-    cleared = λ e. cc;
-  };
-  hands = λ j h. record { is = at_none h; none_is = λ z. refl };
-  recs = record {
-    none_at = refl;
-    unmade = λ r h. refl;
-    unmade_slots = λ r i h. refl;
-    one_place = λ r t e h. absurd (h refl);
-    stands = λ r h. absurd (h refl);
-    owner = λ c h. absurd (h refl);
-    recs = λ r h. absurd (h refl);
-    newest = λ k l. absurd (l.filled refl);
-  };
-  lasts = (omega arith, omega arith);
-}
+new_sound n w = grind arith
 
 pub run_sound : {x : World} → Run x → Sound x
 run_sound (start n w small) = new_sound n w

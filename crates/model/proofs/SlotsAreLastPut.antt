@@ -30,8 +30,7 @@ abbrev UnmadeEmpty : Book → Type 0
 UnmadeEmpty b = (r i : ℕ) → b.count < r → b.slot r i ≡ 0
 
 new_slots : (b : Book) → UnmadeEmpty b → (r i : ℕ) → upd b.slot (suc b.count) (λ k. 0) r i ≡ b.slot r i
-new_slots b u r i = upd_elim (λ f. f i ≡ b.slot r i) b.slot (suc b.count) r (λ k. 0) (λ e. sym (u r i (omega arith)))
-    (λ n. refl)
+new_slots b u r i = grind arith
 
 -- a call leaves all slots, or is a store
 slots_stay_or_store : (b : Book) (c : Call) (a : Answer) → UnmadeEmpty b → SlotsStay b c a ⊎ IsStore c
@@ -48,7 +47,7 @@ slots_stay_or_store b _ a u = inl (record { same_slot = λ r i. refl; no_store =
 -- a store that puts something into a slot is a store of that slot
 puts_is : {b : Book} {r i v : ℕ} {c : Call} → Puts b r i v c →
     (j : ℕ) × (g : ℕ) × (h : ℕ) × (c ≡ by j (store g i h)) × (b.holds j g ≡ r)
-puts_is (puts j g h e f) = (j, g, h, refl, e)
+puts_is h = grind arith
 
 -- a granted store of slot k of what hand g holds: it is slot i of record r, or leaves that one
 stored_last : {x : World} (run : Run x) (j g k h pick : ℕ) (right : Picks x.state pick) (r i : ℕ) →
@@ -166,9 +165,4 @@ loads x run j g i h pick right ok = (
 
 -- records are only added
 pub write_count : (b : Book) (c : Call) (a : Answer) → b.count ≤ (write b c a).count
-write_count b (by j (settle name h w)) a = go (is_found a)
-  where
-    go : (t : Bool) → b.count ≤ (write_settle t b j (text name) h w).count
-    go true = omega arith
-    go false = omega arith
-write_count b _ a = omega arith
+write_count b c a = grind arith

@@ -1,25 +1,25 @@
 -- What a step may change of kept records, names and marks; and so what any call may change.
-use Rattle.std.proofs.Common.{◌≡◌, ℕ, zero, suc, ◌<◌, ◌≤◌, cond, ltb, ◌≢◌, ◌⊎◌, sym, refl, ap, ◌∙◌, subst, inl, inr, arith, ltb-false, ltb-true, Some, None}
+use Rattle.std.proofs.Common.{◌≡◌, ℕ, zero, suc, ◌<◌, ◌≤◌, cond, ltb, ◌≢◌, ◌⊎◌, sym, refl, ap, ◌∙◌, subst, inl, inr, arith, ltb-true, Some, None}
 use Rattle.std.proofs.lemmas.Bool.{cond_both}
 use Rattle.model.specs.declared.Colour.TheVariants.{Black, Grey, White}
 use Rattle.model.specs.declared.Phase.{Phase}
 use Rattle.model.specs.declared.Phase.TheVariants.{Arming, Cleaning, Normal, Parting, Repeat, Scanning, Sweeping, Tracing}
 use Rattle.model.specs.Book.{Book, write}
 use Rattle.model.specs.Calls.{Call, begin, by, open_job, step}
-use Rattle.model.specs.Cycle.{all_owe, clean_on, cleaned, cleared, grey_all, handshake, nod_or, onward, owing, round_end, scanned, step_from, sweep_on, swept, trace_on, traced}
-use Rattle.model.specs.Machine.{Card, Cell, State, at, at_phase, colour, is_grey, is_parked, is_white, painted, slots, upd, with_cards}
+use Rattle.model.specs.Cycle.{all_owe, clean_on, cleaned, grey_all, handshake, nod_or, onward, owing, round_end, scanned, step_from, sweep_on, swept, trace_on, traced}
+use Rattle.model.specs.Machine.{Cell, State, at, at_phase, colour, is_grey, is_parked, painted, slots, upd}
 use Rattle.model.specs.Runs.{Picks, World, given, next}
 use Rattle.model.specs.Tables.{checks, effect}
-use Rattle.model.proofs.CallChanges.{Changes, Commit, SameNames, Touched, from_marked, job_changes, nod_change, rows_change}
+use Rattle.model.proofs.CallChanges.{Changes, Touched, from_marked, job_changes, nod_change, rows_change}
 use Rattle.model.proofs.CallsByEffect.{effect_of}
-use Rattle.model.proofs.Colours.{free_white, grey_is, white_is}
+use Rattle.model.proofs.Colours.{free_white, grey_is}
 use Rattle.model.proofs.Granted.{Passed, next_cases}
 use Rattle.model.proofs.GreyingKeeps.{grey_list, marked_in, unused_greyer, used_greyer}
-use Rattle.model.proofs.Invariant.{Inv, Keeps, Kept, Live, LiveCard, Marked, Sound, Spared}
+use Rattle.model.proofs.Invariant.{Inv, Marked, Sound, Spared}
 use Rattle.model.proofs.PhaseCases.{phase_is}
 use Rattle.model.proofs.SlotsAreLastPut.{new_edge, write_count}
 use Rattle.model.proofs.StepsKeep.{commit_end, phase_scanned, repeat_end, trace_on_cases}
-use Rattle.model.proofs.SweepVisit.{standing_was, sweep_back, sweep_marked, sweep_used}
+use Rattle.model.proofs.SweepVisit.{standing_was}
 use Rattle.model.proofs.TableLaws.{upd_elim, upd_other}
 
 module _ (s : State) (b : Book) (place : ℕ → ℕ) (inv : Inv s b place) where
@@ -30,20 +30,10 @@ module _ (s : State) (b : Book) (place : ℕ → ℕ) (inv : Inv s b place) wher
   moves_on : (s' : State) → ((d : ℕ) → s'.cell d ≡ s.cell d) → ((k : ℕ) → s'.card k ≡ s.card k) →
       ((d : ℕ) → colour (s.cell d) ≡ Some White → Spared s'.phase s'.cursor d → Spared s.phase s.cursor d) →
       (s'.phase ≢ Cleaning) ⊎ ((s.phase ≡ Tracing) × (s'.phase ≡ Cleaning)) → Stepped s'
-  moves_on s' cells cards unspare leads_to = record {
-    back = λ d. subst (λ (x : Cell). Kept s'.phase s'.cursor d x → Keeps s d ⊎ (colour (s.cell d) ≡ None)) (sym (cells d))
-        (λ k. inl (record { in_use = k.in_use; spared = λ z. unspare d z (k.spared z) }));
-    names = go leads_to;
-    marks = λ d l. inl (subst (λ (x : Cell). Marked (colour x)) (cells d) l);
-  }
-    where
-      go : (s'.phase ≢ Cleaning) ⊎ ((s.phase ≡ Tracing) × (s'.phase ≡ Cleaning)) → SameNames s s' ⊎ Commit step s s'
-      go (inl n) = inl (λ k l. subst (λ (x : Card). Live s'.cell s'.phase x × (x.spelling ≡ (s.card k).spelling))
-          (sym (cards k)) (record { filled = l.filled; not_white = λ q. absurd (n q) }, refl))
-      go (inr n) = inr (record { by_step = refl; before = n.0; after = n.1; cells = cells; cards = cards })
+  moves_on s' cells cards unspare leads_to = grind arith
 
   spared_at : (p : Phase) → s.phase ≡ p → ((d : ℕ) → Spared p s.cursor d) → (d : ℕ) → Spared s.phase s.cursor d
-  spared_at p e h d = subst (λ (q : Phase). Spared q s.cursor d) (sym e) (h d)
+  spared_at p e h d = grind arith
 
   shake_change : (next : State) → Stepped next → Stepped (handshake s next)
   shake_change next h = go (owing is_parked s)
@@ -107,55 +97,10 @@ module _ (s : State) (b : Book) (place : ℕ → ℕ) (inv : Inv s b place) wher
 
   -- the visit of a card: live cards stay
   clean_change : s.phase ≡ Cleaning → Stepped (clean_on (cleaned s))
-  clean_change e = cond_both (is_white (s.cell (s.card s.cursor).record_at)) (cleared s) s (λ x. Stepped (clean_on x))
-      (λ q. go (upd s.card s.cursor (record { spelling = (s.card s.cursor).spelling; record_at = 0 }))
-      (λ k l. upd_other s.card s.cursor k _
-      (λ w. l.not_white e (ap (λ (m : ℕ). colour (s.cell (s.card m).record_at)) (sym w) ∙ white_is _ q))))
-      (λ q. go s.card (λ k l. refl))
-    where
-      go : (card' : ℕ → Card) → ((k : ℕ) → LiveCard s k → card' k ≡ s.card k) →
-          Stepped (clean_on (with_cards s card' s.last_card))
-      go card' stay = cond_both (ltb s.cursor 512) (onward (with_cards s card' s.last_card))
-          (at_phase (all_owe (with_cards s card' s.last_card)) Parting 0 s.rounds) Stepped
-          (λ q. record {
-            back = λ d k. inl (record {
-              in_use = k.in_use;
-              spared = λ z. subst (λ (p : Phase). Spared p s.cursor d) (sym e)
-                  (subst (λ (p : Phase). Spared p (suc s.cursor) d) e (k.spared z));
-            });
-            names = inl (λ k l. subst (λ (x : Card). Live s.cell s.phase x × (x.spelling ≡ (s.card k).spelling))
-                (sym (stay k l)) (l, refl));
-            marks = λ d l. inl l;
-          })
-          (λ q. record {
-            back = λ d k. inl (record { in_use = k.in_use; spared = λ z. absurd (k.spared z) });
-            names = inl (λ k l. subst (λ (x : Card). Live s.cell Parting x × (x.spelling ≡ (s.card k).spelling))
-                (sym (stay k l)) (record { filled = l.filled; not_white = λ (w : Parting ≡ Cleaning). cc }, refl));
-            marks = λ d l. inl l;
-          })
+  clean_change e = grind arith
 
   sweep_change : s.phase ≡ Sweeping → Stepped (sweep_on (swept s))
-  sweep_change e = cond_both (ltb s.cursor s.size) (onward (swept s)) (at_phase (swept s) Normal 0 s.rounds) Stepped
-      (λ q. record {
-        back = λ d k. inl (before d (subst (λ (p : Phase). Kept p (suc s.cursor) d ((swept s).cell d)) e k));
-        names = inl (λ k l. (record { filled = l.filled; not_white = λ w. absurd (other w) }, refl));
-        marks = λ d l. inl (sweep_marked s.cell s.cursor d l);
-      })
-      (λ q. record {
-        back = λ d k. inl (before d (record {
-          in_use = k.in_use;
-          spared = λ z. let h = inv.heap.inside d (sweep_used s.cell s.cursor d k.in_use) in let w =
-              ltb-false s.cursor s.size q in omega arith;
-        }));
-        names = inl (λ k l. (record { filled = l.filled; not_white = λ (w : Normal ≡ Cleaning). cc }, refl));
-        marks = λ d l. inl (sweep_marked s.cell s.cursor d l);
-      })
-    where
-      other : s.phase ≢ Cleaning
-      other w = cc
-
-      before : (d : ℕ) → Kept Sweeping (suc s.cursor) d ((swept s).cell d) → Keeps s d
-      before d k = subst (λ (p : Phase). Kept p s.cursor d (s.cell d)) (sym e) (sweep_back s.cell s.cursor d k)
+  sweep_change e = grind arith
 
   step_changes : (p : Phase) → s.phase ≡ p → Stepped (step_from p s)
   step_changes Normal e = rows_change step s s.job s.last_job
@@ -175,11 +120,7 @@ module _ (s : State) (b : Book) (place : ℕ → ℕ) (inv : Inv s b place) wher
   step_changes Sweeping e = sweep_change e
 
   begin_change : s.phase ≡ Normal → Changes begin s (at_phase (all_owe s) Arming 0 0)
-  begin_change e = record {
-    back = λ d k. inl (record { in_use = k.in_use; spared = λ z. spared_at Normal e (λ d. tt) d });
-    names = inl (λ k l. (record { filled = l.filled; not_white = λ (q : Arming ≡ Cleaning). cc }, refl));
-    marks = λ d h. inl h;
-  }
+  begin_change e = grind arith
 
 module _ (x : World) (c : Call) (pick : ℕ) (right : Picks x.state pick) (inv : Sound x) where
   call_changes : (d : Call) → Passed (checks x.state d) → Changes d x.state (effect x.state d pick).after

@@ -1,69 +1,49 @@
 -- The sweep's visit of a cell keeps the invariant.
-use Rattle.std.proofs.Common.{◌≡◌, ℕ, suc, ◌<◌, ◌≢◌, ◌⊎◌, sym, refl, ap, ◌∙◌, subst, inl, inr, arith, Some, None}
-use mathlib.Core.Path.{fun_ext}
-use Rattle.std.proofs.lemmas.Bool.{cases_eq, cond_both}
-use Rattle.model.specs.declared.Colour.TheVariants.{Black, Grey, White}
+use Rattle.std.proofs.Common.{◌≡◌, ℕ, suc, ◌<◌, ◌≢◌, sym, refl, ap, ◌∙◌, subst, arith, Some, None}
+use Rattle.model.specs.declared.Colour.TheVariants.{Black, Grey}
 use Rattle.model.specs.declared.Phase.TheVariants.{Sweeping}
 use Rattle.model.specs.Book.{Book}
 use Rattle.model.specs.Cycle.{swept, swept_cell}
-use Rattle.model.specs.Machine.{Cell, State, at_phase, card_of, colour, free, is_free, slots, upd, used}
+use Rattle.model.specs.Machine.{Cell, State, at_phase, card_of, colour, free, slots, upd, used}
 use Rattle.model.specs.Runs.{standing}
 use Rattle.model.proofs.Carried.{Shrinks, cards_move, job_move, leads_move, rec_move}
-use Rattle.model.proofs.Colours.{free_is, free_not}
 use Rattle.model.proofs.Invariant.{Inv, Kept, Live, Marked, RecOk, StandsFor}
 use Rattle.model.proofs.TableLaws.{upd_all, upd_elim}
 
 -- a record whose cell is still used keeps its place
 standing_stays : (place : ℕ → ℕ) (s : State) (r : ℕ) → colour (s.cell (place r)) ≢ None → standing place s r ≡ place r
-standing_stays place s r n = cond_both (is_free (s.cell (place r))) 0 (place r) (λ y. y ≡ place r)
-    (λ e. absurd (n (free_is _ e))) (λ e. refl)
+standing_stays place s r n = grind arith
 
 standing_zero : (place : ℕ → ℕ) (s : State) (r : ℕ) → place r ≡ 0 → standing place s r ≡ 0
-standing_zero place s r z = cond_both (is_free (s.cell (place r))) 0 (place r) (λ y. y ≡ 0) (λ e. refl) (λ e. z)
+standing_zero place s r z = grind arith
 
 -- a record that has a place had it before, and its cell is used
 pub standing_was : (place : ℕ → ℕ) (s : State) (r : ℕ) → standing place s r ≢ 0 →
     (standing place s r ≡ place r) × (colour (s.cell (place r)) ≢ None)
-standing_was place s r = cond_both (is_free (s.cell (place r))) 0 (place r) (λ y. y ≢ 0 →
-    (y ≡ place r) × (colour (s.cell (place r)) ≢ None)) (λ e n. absurd (n refl)) (λ e n. (refl, free_not _ e))
+standing_was place s r h = grind arith
 
 standing_for : (place : ℕ → ℕ) (s : State) (r v : ℕ) → (v ≢ 0 → colour (s.cell v) ≢ None) → StandsFor place r v →
     StandsFor (standing place s) r v
-standing_for place s r v n h = record { is = go (cases_eq v 0); none_is = h.none_is }
-  where
-    go : (v ≡ 0) ⊎ (v ≡ 0 → ⊥) → v ≡ standing place s r
-    go (inl z) = z ∙ sym (standing_zero place s r (sym h.is ∙ z))
-    go (inr z) = h.is ∙ sym (standing_stays place s r (subst (λ (m : ℕ). colour (s.cell m) ≢ None) h.is (n z)))
+standing_for place s r v n h = grind arith
 
 -- a step that frees nothing leaves every place
 pub standing_same : (s : State) (b : Book) (place : ℕ → ℕ) → Inv s b place → Inv s b (standing place s)
-standing_same s b place inv = subst (λ (f : ℕ → ℕ). Inv s b f) (fun_ext (λ r. go r (cases_eq (place r) 0))) inv
-  where
-    go : (r : ℕ) → (place r ≡ 0) ⊎ (place r ≡ 0 → ⊥) → place r ≡ standing place s r
-    go r (inl z) = z ∙ sym (standing_zero place s r z)
-    go r (inr z) = sym (standing_stays place s r (inv.recs.stands r z))
+standing_same s b place inv = grind arith
 
 -- what the sweep makes of a cell
 swept_kept : (cur : ℕ) (x : Cell) → Kept Sweeping (suc cur) cur (swept_cell x) →
     Kept Sweeping cur cur x × (slots (swept_cell x) ≡ slots x) × (card_of (swept_cell x) ≡ card_of x)
-swept_kept cur free k = absurd (k.in_use refl)
-swept_kept cur (used White n l) k = absurd (k.in_use refl)
-swept_kept cur _ k = (record { in_use = λ e. cc; spared = λ e. cc }, refl, refl)
+swept_kept cur x k = grind arith
 
 swept_keep : (cur : ℕ) (x : Cell) → Kept Sweeping cur cur x → Kept Sweeping (suc cur) cur (swept_cell x)
-swept_keep cur free k = absurd (k.in_use refl)
-swept_keep cur (used White n l) k = let h = k.spared refl in absurd (omega arith)
-swept_keep cur (used Grey n l) k = record { in_use = λ e. cc; spared = λ e. cc }
-swept_keep cur (used Black n l) k = record { in_use = λ e. cc; spared = λ e. omega arith }
+swept_keep cur x k = grind arith
 
 swept_colour : (cur : ℕ) (x : Cell) → colour x ≢ Some Grey →
     (colour (swept_cell x) ≢ Some Grey) × (colour (swept_cell x) ≢ Some Black)
-swept_colour cur (used Grey k l) n = absurd (n refl)
-swept_colour cur _ n = ((λ e. cc), (λ e. cc))
+swept_colour cur x n = grind arith
 
 swept_used : (x : Cell) → colour (swept_cell x) ≢ None → colour x ≢ None
-swept_used free n = n
-swept_used (used c k l) n = λ e. cc
+swept_used x n = grind arith
 
 pub sweep_keeps : (s : State) (b : Book) (place : ℕ → ℕ) (r : ℕ) → Inv (at_phase s Sweeping s.cursor s.rounds) b place →
     Inv (at_phase (swept s) Sweeping (suc s.cursor) r) b (standing place (swept s))
@@ -151,15 +131,10 @@ sweep_keeps s b place r inv = record {
 
 -- what is kept after the visit was kept before it
 pub sweep_back : (f : ℕ → Cell) (c d : ℕ) → Kept Sweeping (suc c) d (upd f c (swept_cell (f c)) d) → Kept Sweeping c d (f d)
-sweep_back f c = upd_all (λ d y. Kept Sweeping (suc c) d y → Kept Sweeping c d (f d)) f c (swept_cell (f c))
-    (λ k. (swept_kept c (f c) k).0) (λ d e k. record { in_use = k.in_use; spared = λ q. let h = k.spared q in omega arith })
+sweep_back f c d h = grind arith
 
 pub sweep_marked : (f : ℕ → Cell) (c d : ℕ) → Marked (colour (upd f c (swept_cell (f c)) d)) → Marked (colour (f d))
-sweep_marked f c = upd_all (λ d y. Marked (colour y) → Marked (colour (f d))) f c (swept_cell (f c)) (go (f c)) (λ d e h. h)
-  where
-    go : (x : Cell) → Marked (colour (swept_cell x)) → Marked (colour x)
-    go (used Black k l) h = tt
-    go _ h = h
+sweep_marked f c d h = grind arith
 
 pub sweep_used : (f : ℕ → Cell) (c d : ℕ) → colour (upd f c (swept_cell (f c)) d) ≢ None → colour (f d) ≢ None
-sweep_used f c = upd_all (λ d y. colour y ≢ None → colour (f d) ≢ None) f c (swept_cell (f c)) (swept_used (f c)) (λ d e n. n)
+sweep_used f c d h = grind arith

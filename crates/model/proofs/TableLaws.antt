@@ -1,17 +1,16 @@
 -- Laws of tables, slot lists, searches and texts.
-use Rattle.std.proofs.Common.{◌≡◌, ℕ, zero, suc, ◌+◌, ◌-◌, ◌<◌, ◌≤◌, Bool, true, false, eqb, ◌≢◌, ◌⊎◌, List, [], length, get_or, set, replicate, sym, refl, ap, subst, inl, inr, arith, length-set, get_or-set_other, get_or-set_same, eqb-true}
-use borrow.Author.Tests.{eqb-false}
+use Rattle.std.proofs.Common.{◌≡◌, ℕ, zero, suc, ◌+◌, ◌-◌, ◌<◌, ◌≤◌, Bool, true, false, ◌≢◌, ◌⊎◌, List, [], length, get_or, set, replicate, sym, refl, ap, subst, inl, inr, arith, length-set, get_or-set_other, get_or-set_same}
 use Rattle.std.proofs.lemmas.Bool.{cases_eq, cond_both}
 use Rattle.model.specs.Machine.{at, first, next_vacant, or_else, put, upd}
 
 pub upd_elim : {A : Type 0} (P : A → Type 0) (f : ℕ → A) (i j : ℕ) (v : A) → (i ≡ j → P v) → (i ≢ j → P (f j)) → P (upd f i v j)
-upd_elim P f i j v a b = cond_both (eqb i j) v (f j) P (λ e. a (eqb-true i j e)) (λ e. b (eqb-false i j e))
+upd_elim P f i j v a b = grind arith
 
 pub upd_same : {A : Type 0} (f : ℕ → A) (i : ℕ) (v : A) → upd f i v i ≡ v
-upd_same f i v = upd_elim (λ y. y ≡ v) f i i v (λ e. refl) (λ n. absurd (n refl))
+upd_same f i v = grind arith
 
 pub upd_other : {A : Type 0} (f : ℕ → A) (i j : ℕ) (v : A) → i ≢ j → upd f i v j ≡ f j
-upd_other f i j v h = upd_elim (λ y. y ≡ f j) f i j v (λ e. absurd (h e)) (λ n. refl)
+upd_other f i j v h = grind arith
 
 -- one element of a list changed
 pub put_elim : (P : ℕ → Type 0) (l : List ℕ) (i j v : ℕ) → (i ≡ j → P v) → (i ≢ j → P (at l j)) → 1 ≤ i → i ≤ length l →
@@ -35,8 +34,7 @@ at_zeros (suc n) (suc zero) = refl
 at_zeros (suc n) (suc (suc i)) = at_zeros n (suc i)
 
 pub at_nil : (i : ℕ) → at [] i ≡ 0
-at_nil zero = refl
-at_nil (suc i) = refl
+at_nil i = grind arith
 
 -- the search: what it finds passes the test and stands in the range; where it finds nothing, nothing passes
 pub first_passes : (t : ℕ → Bool) (a n : ℕ) → first t a n ≢ 0 → t (first t a n) ≡ true
@@ -84,12 +82,8 @@ vacant_range t last n small h = go (first t (suc last) (n - last)) refl h
 
 pub upd_all : {A : Type 0} (P : ℕ → A → Type 0) (f : ℕ → A) (i : ℕ) (v : A) → P i v → ((j : ℕ) → i ≢ j → P j (f j)) →
     (j : ℕ) → P j (upd f i v j)
-upd_all P f i v p q j = upd_elim (λ y. P j y) f i j v (λ e. subst (λ (m : ℕ). P m v) e p) (q j)
+upd_all P f i v p q j = grind arith
 
 pub upd_both : {A B : Type 0} (P : ℕ → A → B → Type 0) (f : ℕ → A) (g : ℕ → B) (i : ℕ) (v : A) (w : B) → P i v w →
     ((j : ℕ) → i ≢ j → P j (f j) (g j)) → (j : ℕ) → P j (upd f i v j) (upd g i w j)
-upd_both P f g i v w p q j = go (cases_eq i j)
-  where
-    go : (i ≡ j) ⊎ (i ≡ j → ⊥) → P j (upd f i v j) (upd g i w j)
-    go (inl e) = subst (λ (m : ℕ). P m (upd f i v m) (upd g i w m)) e (rw (upd_same f i v, upd_same g i w) p)
-    go (inr n) = rw (upd_other f i j v n, upd_other g i j w n) (q j n)
+upd_both P f g i v w p q j = grind arith

@@ -1,10 +1,10 @@
 -- A new record in a cell that was free keeps the invariant, unnamed or filed on a card.
-use Rattle.std.proofs.Common.{◌≡◌, ℕ, zero, suc, ◌<◌, ◌≤◌, true, false, ltb, ◌≢◌, ◌⊎◌, List, replicate, sym, refl, ap, ◌∙◌, subst, inl, inr, suc-ne-zero, arith, ltb-false, ltb-true, Option, Some, None}
+use Rattle.std.proofs.Common.{◌≡◌, ℕ, zero, suc, ◌<◌, ◌≤◌, true, false, ◌≢◌, ◌⊎◌, List, replicate, sym, refl, ap, ◌∙◌, subst, inl, inr, suc-ne-zero, arith, Option, Some, None}
 use lib.ListN.{length-replicate}
 use Rattle.std.proofs.lemmas.Bool.{cases_eq, cond_both}
-use Rattle.model.specs.declared.Colour.TheVariants.{Black, Grey, White}
+use Rattle.model.specs.declared.Colour.TheVariants.{Black, White}
 use Rattle.model.specs.declared.Phase.{Phase}
-use Rattle.model.specs.declared.Phase.TheVariants.{Cleaning, Normal, Parting, Repeat, Scanning, Sweeping, Tracing}
+use Rattle.model.specs.declared.Phase.TheVariants.{Cleaning}
 use Rattle.model.specs.Book.{is_named, latest}
 use Rattle.model.specs.Cycle.{new_colour}
 use Rattle.model.specs.Machine.{Card, Cell, Job, at, bears, card_of, colour, slots, upd, used}
@@ -15,23 +15,13 @@ use Rattle.model.proofs.Invariant.{CardsOk, ColourOk, HeapOk, JobOk, Kept, Live,
 use Rattle.model.proofs.TableLaws.{at_zeros, upd_all, upd_elim, upd_other, upd_same}
 
 new_colour_ok : (p : Phase) (cur c : ℕ) → ColourOk p cur c (Some (new_colour p cur c))
-new_colour_ok Normal cur c = ((λ e. cc), (λ e. cc))
-new_colour_ok Scanning cur c = tt
-new_colour_ok Tracing cur c = λ h e. cc
-new_colour_ok Repeat cur c = tt
-new_colour_ok Sweeping cur c = cond_both (ltb c cur) White Black (λ y. (Some y ≢ Some Grey) × (c < cur → Some y ≢ Some Black))
-    (λ t. ((λ e. cc), (λ h e. cc))) (λ t. ((λ e. cc), (λ h. let q = ltb-false c cur t in absurd (omega arith))))
-new_colour_ok _ cur c = λ e. cc
+new_colour_ok p cur c = grind arith
 
 new_spared : (p : Phase) (cur c : ℕ) → Some (new_colour p cur c) ≡ Some White → Spared p cur c
-new_spared Cleaning cur c e = cc
-new_spared Parting cur c e = cc
-new_spared Sweeping cur c e = cond_both (ltb c cur) White Black (λ y. Some y ≡ Some White → c < cur) (λ t q. ltb-true c cur t)
-    (λ t q. cc) e
-new_spared _ cur c e = tt
+new_spared p cur c e = grind arith
 
 new_cleaning : (p : Phase) (cur c : ℕ) → p ≡ Cleaning → Some (new_colour p cur c) ≢ Some White
-new_cleaning p cur c e = subst (λ (q : Phase). Some (new_colour q cur c) ≢ Some White) (sym e) (λ z. cc)
+new_cleaning p cur c e = grind arith
 
 -- the latest record of a spelling
 pub latest_most : (f : ℕ → Option (List ℕ)) (n : ℕ) (sp : List ℕ) → latest f n sp ≤ n
@@ -49,7 +39,7 @@ latest_below f m (suc n) v sp h = rw (upd_other f m (suc n) v (λ e. omega arith
 pub latest_new : (f : ℕ → Option (List ℕ)) (n : ℕ) (v : Option (List ℕ)) (sp : List ℕ) → is_named v sp ≡ true →
     latest (upd f (suc n) v) (suc n) sp ≡ suc n
 unfolding latest
-latest_new f n v sp h = rw (upd_same f (suc n) v, h) refl
+latest_new f n v sp h = grind arith
 
 pub latest_old : (f : ℕ → Option (List ℕ)) (n : ℕ) (v : Option (List ℕ)) (sp : List ℕ) → is_named v sp ≡ false →
     latest (upd f (suc n) v) (suc n) sp ≡ latest f n sp
@@ -58,13 +48,13 @@ latest_old f n v sp h = rw (upd_same f (suc n) v, h) (latest_below f (suc n) n v
 
 module _ (f : ℕ → Cell) (p : Phase) (cur pick k w : ℕ) (vac : colour (f pick) ≡ None) where
   not_pick : (d : ℕ) → colour (f d) ≢ None → pick ≢ d
-  not_pick d n e = n (subst (λ (m : ℕ). colour (f m) ≡ None) e vac)
+  not_pick d n = grind arith
 
   take_old : (x : Cell) (d : ℕ) → colour (f d) ≢ None → upd f pick x d ≡ f d
-  take_old x d n = upd_other f pick d x (not_pick d n)
+  take_old x d n = grind arith
 
   take_keep : (x : Cell) (d : ℕ) → Kept p cur d (f d) → Kept p cur d (upd f pick x d)
-  take_keep x d h = subst (λ (y : Cell). Kept p cur d y) (sym (take_old x d h.in_use)) h
+  take_keep x d h = grind arith
 
   take_protected : (x : Cell) {d : ℕ} → Protected f d → Protected (upd f pick x) d
   take_protected x = protected_map f (upd f pick x)
@@ -76,7 +66,7 @@ module _ (f : ℕ → Cell) (p : Phase) (cur pick k w : ℕ) (vac : colour (f pi
   X = used (new_colour p cur pick) k (replicate w 0)
 
   pub new_kept : Kept p cur pick X
-  new_kept = record { in_use = some_none (new_colour p cur pick); spared = new_spared p cur pick }
+  new_kept = grind arith
 
   pub take_heap : (size : ℕ) → 1 ≤ pick → pick ≤ size → HeapOk size f p cur → HeapOk size (upd f pick X) p cur
   take_heap size lo hi ok = record {
@@ -95,21 +85,16 @@ module _ (f : ℕ → Cell) (p : Phase) (cur pick k w : ℕ) (vac : colour (f pi
   take_job j b ok = job_move j b (take_keep X) (λ t o h z. take_protected X (ok.protected t o h z)) (λ g. g) ok
 
   pub take_unlive : (x : Card) → Live (upd f pick X) p x → Live f p x
-  take_unlive x l = record {
-    filled = l.filled;
-    not_white = λ e z. l.not_white e (ap colour (take_old X _ (λ v. cc)) ∙ z);
-  }
+  take_unlive x l = grind arith
 
   take_clear : (card : ℕ → Card) → CardsOk f p cur card → p ≡ Cleaning → (m : ℕ) → 1 ≤ m → m < cur → (card m).record_at ≢ 0 →
       colour (upd f pick X (card m).record_at) ≢ Some White
-  take_clear card ok e m lo hi n = upd_elim (λ y. colour y ≢ Some White) f pick (card m).record_at X
-      (λ q. new_cleaning p cur pick e) (λ q. ok.cleared e m lo hi n)
+  take_clear card ok e m lo hi n = grind arith
 
   take_live : (card : ℕ → Card) → CardsOk f p cur card → (m : ℕ) → Live (upd f pick X) p (card m) →
       Kept p cur (card m).record_at (upd f pick X (card m).record_at) × (card_of (upd f pick X (card m).record_at) ≡ m) ×
       (1 ≤ m) × (m ≤ 512)
-  take_live card ok m l = let o = ok.live m (take_unlive (card m) l) in
-      (take_keep X _ o.0, ap card_of (take_old X _ o.0.in_use) ∙ o.1, o.2, o.3)
+  take_live card ok m l = grind arith
 
   -- the cards, if none is filed
   pub take_cards : k ≡ 0 → (card : ℕ → Card) → CardsOk f p cur card → CardsOk (upd f pick X) p cur card
@@ -125,14 +110,7 @@ module _ (f : ℕ → Cell) (p : Phase) (cur pick k w : ℕ) (vac : colour (f pi
   -- a kept record's card is not one that reads as empty
   pub not_empty : (card : ℕ → Card) (size : ℕ) → HeapOk size f p cur → CardsOk f p cur card → (Live f p (card k) → ⊥) →
       (c : ℕ) → Kept p cur c (f c) → card_of (f c) ≢ 0 → k ≢ card_of (f c)
-  not_empty card size hp ok dead c h n e = dead
-      (record {
-        filled = λ z. h.in_use (ap (λ (m : ℕ). colour (f m)) (sym r ∙ z) ∙ hp.no_zero);
-        not_white = λ q z. subst (λ (s : Phase). Spared s cur c) q (h.spared (ap (λ (m : ℕ). colour (f m)) (sym r) ∙ z));
-      })
-    where
-      r : (card k).record_at ≡ c
-      r = ap (λ (m : ℕ). (card m).record_at) e ∙ ok.back c h n
+  not_empty card size hp ok dead c h n = grind arith
 
   -- the cards, with the new record filed on card k
   pub file_cards : (sp : List ℕ) (card : ℕ → Card) (size : ℕ) → HeapOk size f p cur → 1 ≤ k → k ≤ 512 → 1 ≤ pick →
@@ -181,10 +159,7 @@ module _ (f : ℕ → Cell) (p : Phase) (cur pick k w : ℕ) (vac : colour (f pi
   module _ (card card' : ℕ → Card) (count : ℕ) (width : ℕ → ℕ) (slot : ℕ → ℕ → ℕ) (name : ℕ → Option (List ℕ)) (place : ℕ →
       ℕ) (nm : Option (List ℕ)) (ok : RecsOk f p cur card count width slot name place) where
     pub take_rel : (r v : ℕ) → StandsFor place r v → StandsFor (upd place (suc count) pick) r v
-    take_rel r v h = record { is = h.is ∙ sym (upd_other place (suc count) r pick ne); none_is = h.none_is }
-      where
-        ne : suc count ≢ r
-        ne e = suc-ne-zero count (e ∙ h.none_is (h.is ∙ ok.unmade r (omega arith)))
+    take_rel r v h = grind arith
 
     pub take_recs : colour (f 0) ≡ None → 1 ≤ pick →
         ((c : ℕ) → Kept p cur c (f c) → card_of (f c) ≢ 0 → card' (card_of (f c)) ≡ card (card_of (f c))) →

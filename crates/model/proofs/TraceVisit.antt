@@ -1,11 +1,11 @@
 -- The visit of a grey cell by a trace step keeps the invariant.
-use Rattle.std.proofs.Common.{◌≡◌, ℕ, ◌≢◌, ◌⊎◌, List, sym, refl, ap, ◌∙◌, subst, inl, inr, Some, None}
+use Rattle.std.proofs.Common.{◌≡◌, ℕ, ◌≢◌, ◌⊎◌, List, sym, refl, ap, ◌∙◌, subst, inl, inr, Some, None, arith}
 use Rattle.std.proofs.lemmas.Bool.{cases_eq}
 use Rattle.model.specs.declared.Colour.TheVariants.{Black, Grey}
 use Rattle.model.specs.declared.Phase.TheVariants.{Repeat}
 use Rattle.model.specs.Book.{Book}
 use Rattle.model.specs.Cycle.{grey_all, scanned}
-use Rattle.model.specs.Machine.{Cell, State, at, at_phase, card_of, colour, free, painted, slots, upd, used, with_cells}
+use Rattle.model.specs.Machine.{Cell, State, at, at_phase, card_of, colour, painted, slots, upd, with_cells}
 use Rattle.model.proofs.Carried.{Shrinks, cards_move, job_move, leads_move, protected_map, recs_move}
 use Rattle.model.proofs.GreyingKeeps.{Greyer, Repeats, grey_list, greying_keeps, marked_list, used_greyer}
 use Rattle.model.proofs.Invariant.{Inv, Kept, Live, Marked, Protected, Spared, marked}
@@ -13,16 +13,13 @@ use Rattle.model.proofs.TableLaws.{upd_all, upd_elim, upd_other}
 
 -- blackening a grey cell whose slots are grey or black
 black_slots : (x : Cell) → slots (painted Black x) ≡ slots x
-black_slots free = refl
-black_slots (used c k l) = refl
+black_slots x = grind arith
 
 black_card : (x : Cell) → card_of (painted Black x) ≡ card_of x
-black_card free = refl
-black_card (used c k l) = refl
+black_card x = grind arith
 
 pub black_colour : (x : Cell) → colour x ≢ None → colour (painted Black x) ≡ Some Black
-black_colour free n = absurd (n refl)
-black_colour (used c k l) n = refl
+black_colour x n = grind arith
 
 module _ (f : ℕ → Cell) (cur c : ℕ) (n : colour (f c) ≢ None) (all : (i : ℕ) → at (slots (f c)) i ≢ 0 →
     Marked (colour (f (at (slots (f c)) i)))) where
@@ -30,21 +27,16 @@ module _ (f : ℕ → Cell) (cur c : ℕ) (n : colour (f c) ≢ None) (all : (i 
   g = upd f c (painted Black (f c))
 
   black_same : (d : ℕ) → (slots (g d) ≡ slots (f d)) × (card_of (g d) ≡ card_of (f d))
-  black_same d = upd_elim (λ y. (slots y ≡ slots (f d)) × (card_of y ≡ card_of (f d))) f c d (painted Black (f c))
-      (λ e. (black_slots (f c) ∙ ap (λ (m : ℕ). slots (f m)) e, black_card (f c) ∙ ap (λ (m : ℕ). card_of (f m)) e))
-      (λ e. (refl, refl))
+  black_same d = grind arith
 
   black_to : (d : ℕ) → colour (f d) ≢ None → colour (g d) ≢ None
-  black_to d h = upd_elim (λ y. colour y ≢ None) f c d (painted Black (f c)) (λ e z. let w = black_colour (f c) n in cc)
-      (λ e. h)
+  black_to d h = grind arith
 
   black_from : (d : ℕ) → colour (g d) ≢ None → colour (f d) ≢ None
-  black_from d = upd_elim (λ y. colour y ≢ None → colour (f d) ≢ None) f c d (painted Black (f c))
-      (λ e h z. n (ap (λ (m : ℕ). colour (f m)) e ∙ z)) (λ e h. h)
+  black_from d h = grind arith
 
   black_marked : (d : ℕ) → Marked (colour (f d)) → Marked (colour (g d))
-  black_marked d h = upd_elim (λ y. Marked (colour y)) f c d (painted Black (f c))
-      (λ e. subst Marked (sym (black_colour (f c) n)) tt) (λ e. h)
+  black_marked d h = grind arith
 
   black_protected : {d : ℕ} → Protected f d → Protected g d
   black_protected = protected_map f g black_marked (λ q i u z. go q i u z (cases_eq c q))

@@ -1,8 +1,8 @@
 -- What no hand reaches from begin to the commit is freed by the cycle's end.
 use Rattle.std.proofs.Common.{◌≡◌, ℕ, ◌<◌, ◌≤◌, ◌≢◌, ◌⊎◌, sym, refl, ap, ◌∙◌, subst, inl, inr, arith, Option, Some, None}
-use Rattle.std.proofs.lemmas.Bool.{cases_eq, cases_lt}
+use Rattle.std.proofs.lemmas.Bool.{cases_lt}
 use Rattle.model.specs.declared.Colour.{Colour}
-use Rattle.model.specs.declared.Colour.TheVariants.{Black, Grey, White}
+use Rattle.model.specs.declared.Colour.TheVariants.{Black, Grey}
 use Rattle.model.specs.declared.Phase.{Phase}
 use Rattle.model.specs.declared.Phase.TheVariants.{Cleaning, Normal}
 use Rattle.model.specs.Book.{Book, Leads, Reached, from_hand, here, through}
@@ -12,7 +12,7 @@ use Rattle.model.specs.Runs.{Commits, Granted, Later, Picks, Run, Through, Unrea
 use Rattle.model.proofs.CallChanges.{Touched, from_marked, in_hand, in_slot}
 use Rattle.model.proofs.Colours.{marked_used}
 use Rattle.model.proofs.Granted.{granted_next, next_cases}
-use Rattle.model.proofs.Invariant.{ColourOk, Keeps, Kept, Marked, Sound, Spared}
+use Rattle.model.proofs.Invariant.{ColourOk, Keeps, Kept, Marked, Sound}
 use Rattle.model.proofs.PhaseCases.{phase_is}
 use Rattle.model.proofs.RunsKeep.{next_sound, run_sound, through_sound}
 use Rattle.model.proofs.StepChanges.{next_changes, next_count, next_edge, next_place, step_book}
@@ -23,7 +23,7 @@ record Untraced (x : World) (t : ℕ) : Type 0 where
   pub no_path : (c : ℕ) → Marked (colour (x.state.cell c)) → (r : ℕ) → x.place r ≡ c → Leads x.book r t → ⊥
 
 marked_kept : (p : Phase) (cur c : ℕ) (x : Cell) → Marked (colour x) → Kept p cur c x
-marked_kept p cur c x l = record { in_use = marked_used x l; spared = λ e. absurd (subst Marked e l) }
+marked_kept p cur c x l = grind arith
 
 module _ (x : World) (c : Call) (pick : ℕ) (right : Picks x.state pick) (inv : Sound x) (t : ℕ) (far : Unreached t x)
     (far' : Unreached t (next x c pick)) where
@@ -57,8 +57,7 @@ module _ (x : World) (c : Call) (pick : ℕ) (right : Picks x.state pick) (inv :
   -- a slot of a standing record leads where the book says
   slot_record : (u i d r : ℕ) → x.place u ≢ 0 → Keeps x.state (x.place u) → at (slots (x.state.cell (x.place u))) i ≡ d →
       x.place r ≡ d → d ≢ 0 → r ≡ x.book.slot u i
-  slot_record u i d r placed kept content at_d n = inv.recs.one_place r _
-      (at_d ∙ sym content ∙ ((inv.recs.recs u placed kept).holds i).is) (λ z. n (sym at_d ∙ z))
+  slot_record u i d r placed kept content at_d n = grind arith
 
   -- where a marked record's slot leads to r, and r to the record, so does the marked one
   via_slot : (u i d r : ℕ) → r ≡ x.book.slot u i → x.place r ≡ d → d ≢ 0 → Leads x.book r t → Leads x.book u t
@@ -140,12 +139,7 @@ next_doomed x c pick right inv t dm = record {
         (ap (λ (v : ℕ). colour (x.state.cell v)) (sym e) ∙ k)
 
 cleaning_marked : (x : Cell) (cur c : ℕ) → Kept Cleaning cur c x → Marked (colour x)
-cleaning_marked x cur c k = go (colour x) refl
-  where
-    go : (l : Option Colour) → colour x ≡ l → Marked l
-    go None e = absurd (k.in_use e)
-    go (Some White) e = absurd (k.spared e)
-    go _ e = tt
+cleaning_marked x cur c k = grind arith
 
 commit_dooms : (x : World) (t : ℕ) → Untraced x t → x.state.phase ≡ Cleaning → Doomed x t
 commit_dooms x t un e = record {
@@ -155,17 +149,10 @@ commit_dooms x t un e = record {
 }
 
 normal_gone : (x : World) (t : ℕ) → Sound x → Doomed x t → x.state.phase ≡ Normal → x.place t ≡ 0
-normal_gone x t inv dm e = elim (cases_eq (x.place t) 0) [
-  | inl z ↦ z
-  | inr n ↦ absurd (dm.doom n (record {
-    in_use = inv.recs.stands t n;
-    spared = λ z. subst (λ (p : Phase). Spared p x.state.cursor (x.place t)) (sym e) tt;
-  }))
-]
+normal_gone x t inv dm e = grind arith
 
 through_last : {P : World → Type 0} {x y : World} → Through P x y → P y
-through_last (now p) = p
-through_last (more t c pick right p) = p
+through_last h = grind arith
 
 through_untraced : {t : ℕ} {x y : World} → Through (Unreached t) x y → Sound x → Untraced x t → Untraced y t
 through_untraced (now far) g p = p

@@ -14,7 +14,7 @@ use Rattle.model.specs.Tables.{barrier, filed_on, find_greys, found_into, job_ef
 use Rattle.model.proofs.BarrierKeeps.{greyer_if, repeats_repeating}
 use Rattle.model.proofs.CallsByEffect.{Effect, finds, makes, nods, rows_alone, settles_name, stores}
 use Rattle.model.proofs.Colours.{white_is}
-use Rattle.model.proofs.GreyingKeeps.{Greyer, Repeats, Turn, grey_one, greyed_grey, none_greyer, stays, turns, unused_greyer}
+use Rattle.model.proofs.GreyingKeeps.{Greyer, Repeats, grey_one, greyed_grey, none_greyer, stays, turns, unused_greyer}
 use Rattle.model.proofs.Invariant.{Inv}
 use Rattle.model.proofs.JobRowsKeep.{nod_greys}
 use Rattle.model.proofs.PhaseCases.{tracing_cases}
@@ -32,8 +32,7 @@ total f zero = 0
 total f (suc n) = weight (colour (f (suc n))) + total f n
 
 weight_most : (l : Option Colour) → weight l ≤ 2
-weight_most (Some White) = omega arith
-weight_most _ = omega arith
+weight_most l = grind arith
 
 pub total_most : (f : ℕ → Cell) (n : ℕ) → total f n ≤ 2 * n
 unfolding total
@@ -61,11 +60,7 @@ total_lt f g (suc n) c h lo hi lt = go (cases_eq (suc n) c) (total_le f g n h) (
     go (inr e) a r = let q : c ≤ n = omega arith in let b = r q in let d = h (suc n) in omega arith
 
 pub greyer_weight : (x y : Cell) → Greyer x y → weight (colour y) ≤ weight (colour x)
-greyer_weight x y h = go h.how
-  where
-    go : Turn (colour x) (colour y) → weight (colour y) ≤ weight (colour x)
-    go (inl e) = let q = ap weight e in omega arith
-    go (inr e) = let p = ap weight e.0 in let q = ap weight e.1 in omega arith
+greyer_weight x y h = grind arith
 
 -- what a call of a job may change while tracing
 pub record Steady (s s' : State) : Type 0 where
@@ -85,12 +80,10 @@ repeats_trans stays b = b
 repeats_trans turns b = repeats_after b refl
 
 repeats_tracing : {p q : Phase} → Repeats p q → T (is_tracing p) → T (is_tracing q)
-repeats_tracing stays t = t
-repeats_tracing turns t = tt
+repeats_tracing h t = grind arith
 
 repeats_cases : {p q : Phase} → Repeats p q → p ≡ Tracing → (q ≡ Tracing) ⊎ (q ≡ Repeat)
-repeats_cases stays e = inl e
-repeats_cases turns e = inr refl
+repeats_cases h e = grind arith
 
 steady_trans : {s s1 s2 : State} → Steady s s1 → Steady s1 s2 → Steady s s2
 steady_trans {s} {s1} {s2} a b = record {
