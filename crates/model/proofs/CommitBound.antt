@@ -1,14 +1,13 @@
 -- The commit comes within N × (2N + 1) trace steps. While tracing, each round but the last makes the heap lighter by at
 -- least 1, and it weighs 2N at most.
-use Rattle.std.proofs.Common.{◌≡◌, ℕ, zero, suc, ◌+◌, ◌*◌, ◌<◌, ◌≤◌, cond, T, ltb, refl, ap, mul-le-mul_right, arith, Some, is_ok, IsTrue}
+use Rattle.std.proofs.Common.{◌≡◌, ℕ, suc, ◌+◌, ◌*◌, ◌<◌, ◌≤◌, cond, T, refl, ap, mul-le-mul_right, arith, Some, is_ok, IsTrue}
 use Rattle.std.specs.Bool.{passes}
-use Rattle.std.proofs.lemmas.Bool.{cond_both}
 use Rattle.model.specs.declared.Colour.TheVariants.{Black, Grey}
 use Rattle.model.specs.declared.Phase.{Phase}
-use Rattle.model.specs.declared.Phase.TheVariants.{Arming, Cleaning, Normal, Parting, Repeat, Scanning, Sweeping, Tracing}
+use Rattle.model.specs.declared.Phase.TheVariants.{Arming, Cleaning, Repeat, Scanning, Tracing}
 use Rattle.model.specs.Calls.{Call, begin, by, open_job, step}
-use Rattle.model.specs.Cycle.{all_owe, clean_on, cleared, grey_all, handshake, nod_or, nodded, onward, owing, scanned, step_from, swept, trace_on}
-use Rattle.model.specs.Machine.{Cell, State, at_phase, colour, is_grey, is_parked, is_tracing, is_white, painted, slots, upd}
+use Rattle.model.specs.Cycle.{clean_on, grey_all, handshake, scanned, step_from, trace_on}
+use Rattle.model.specs.Machine.{Cell, State, colour, is_tracing, painted, slots, upd}
 use Rattle.model.specs.Promise.{trace_limit}
 use Rattle.model.specs.Runs.{Run, World, count_call, next, next_by, start, called, trace_steps}
 use Rattle.model.specs.Tables.{checks, effect, outcome, vacant_job}
@@ -53,9 +52,7 @@ repeats_bounded : {p q : Phase} (n r cur t w w' : ℕ) → Repeats p q → (T (i
 repeats_bounded n r cur t w w' h le lt b = grind arith
 
 steady_bounds : (s s' : State) (t : ℕ) → Steady s s' → InBounds s t → InBounds s' t
-steady_bounds s s' t l b = rw (l.size_is, l.rounds_is, l.cursor_is)
-    (repeats_bounded s.size s.rounds s.cursor t (total s.cell s.size) (total s'.cell s.size) l.repeats
-    (λ z. total_le s.cell s'.cell s.size (l.lighter z)) l.falls b)
+steady_bounds s s' t l b = grind (arith, repeats_bounded, total_le)
 
 module _ (s : State) (t : ℕ) where
   -- a visit of a grey cell makes the heap lighter
@@ -87,11 +84,7 @@ module _ (s : State) (t : ℕ) where
       t + s.size + 1 ≡ s.rounds * s.size + s.cursor → total s.cell s.size + s.rounds ≤ 2 * s.size + 1 →
       Bounded Repeat (scanned s).size (scanned s).rounds (scanned s).cursor t (total (scanned s).cell (scanned s).size)
   unfolding scanned
-  scanned_bounds a lo hi e small = go (scan_lighter a lo hi)
-    where
-      go : total (scanned s).cell s.size < total s.cell s.size →
-          Bounded Repeat (scanned s).size (scanned s).rounds (scanned s).cursor t (total (scanned s).cell (scanned s).size)
-      go less = (lo, hi, e, omega arith)
+  scanned_bounds a lo hi e small = grind (arith, scan_lighter)
 
   at_phase_bounds : (x : State) (p : Phase) → x.phase ≡ p →
       (cur u : ℕ) → Bounded p x.size x.rounds cur u (total x.cell x.size) →
@@ -114,33 +107,14 @@ module _ (s : State) (t : ℕ) where
       (below_limit s.size s.rounds s.cursor t h.1 h.2 (omega arith)))
 
   shake_bounds : (next : State) → InBounds s t → InBounds next t → InBounds (handshake s next) t
-  shake_bounds next h n = go (owing is_parked s)
-    where
-      go : (k : ℕ) → InBounds (nod_or k s next) t
-      go zero = n
-      go (suc k) = steady_bounds s (nodded s (suc k)) t (steady_nod s (suc k)) h
+  shake_bounds next h n = grind (arith, steady_bounds, steady_nod)
 
   clean_bounds : (x : State) → x.phase ≡ Cleaning → t ≤ trace_limit x.size → InBounds (clean_on x) t
   clean_bounds x e h = grind arith
 
   step_bounds : (p : Phase) → s.phase ≡ p → Bounded p s.size s.rounds s.cursor t (total s.cell s.size) →
       InBounds (step_from p s) (cond (is_tracing p) (suc t) t)
-  step_bounds Normal e h = at_phase_bounds s Normal e s.cursor t h
-  step_bounds Arming e h = shake_bounds (at_phase (all_owe s) Scanning 0 s.rounds) (at_phase_bounds s Arming e s.cursor t h)
-      h
-  step_bounds Scanning e h = shake_bounds (at_phase s Tracing 1 1) (at_phase_bounds s Scanning e s.cursor t h)
-      (let m = total_most s.cell s.size in (omega arith, h.1, omega arith, omega arith))
-  step_bounds Tracing e h = cond_both (is_grey (s.cell s.cursor)) (scanned s) s (λ x. InBounds (trace_on x) (suc t))
-      (λ a. repeat_on (scanned s) (phase_scanned s) (scanned_bounds (grey_is _ a) h.0 h.1 h.2 h.3))
-      (λ a. tracing_on e h)
-  step_bounds Repeat e h = cond_both (is_grey (s.cell s.cursor)) (scanned s) s (λ x. InBounds (trace_on x) (suc t))
-      (λ a. repeat_on (scanned s) (phase_scanned s) (scanned_bounds (grey_is _ a) h.0 h.1 h.2 (omega arith)))
-      (λ a. repeat_on s e h)
-  step_bounds Cleaning e h = cond_both (is_white (s.cell (s.card s.cursor).record_at)) (cleared s) s
-      (λ x. InBounds (clean_on x) t) (λ q. clean_bounds (cleared s) e h) (λ q. clean_bounds s e h)
-  step_bounds Parting e h = shake_bounds (at_phase s Sweeping 1 s.rounds) (at_phase_bounds s Parting e s.cursor t h) h
-  step_bounds Sweeping e h = cond_both (ltb s.cursor s.size) (onward (swept s)) (at_phase (swept s) Normal 0 s.rounds)
-      (λ y. InBounds y t) (λ q. at_phase_bounds (swept s) Sweeping e (suc s.cursor) t h) (λ q. h)
+  step_bounds p e h = grind (arith, at_phase_bounds, shake_bounds, total_most, repeat_on, phase_scanned, scanned_bounds, grey_is, tracing_on, clean_bounds)
 
 call_bounds : (x : World) (t pick : ℕ) → Sound x → InBounds x.state t → (c : Call) → Passed (checks x.state c) →
     InBounds (effect x.state c pick).after (count_call c x.state.phase t)

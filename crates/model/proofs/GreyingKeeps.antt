@@ -1,5 +1,5 @@
 -- Greying keeps the invariant, whatever spared records become grey.
-use Rattle.std.proofs.Common.{◌≡◌, ℕ, zero, suc, Bool, ◌≢◌, ◌⊎◌, List, [], ◌∷◌, sym, refl, ap, ◌∙◌, subst, inl, inr, Option, Some, None, arith}
+use Rattle.std.proofs.Common.{◌≡◌, ℕ, zero, suc, Bool, ◌≢◌, ◌⊎◌, List, [], ◌∷◌, refl, inl, inr, Option, Some, None, arith}
 use Rattle.model.specs.declared.Colour.{Colour}
 use Rattle.model.specs.declared.Colour.TheVariants.{Black, Grey, White}
 use Rattle.model.specs.declared.Phase.{Phase}
@@ -151,38 +151,19 @@ module _ {f g : ℕ → Cell} {p q : Phase} {cur : ℕ} (gr : Greys f g p q cur)
   grey_unlive x l = grind arith
 
   grey_protected : {c : ℕ} → Protected f c → Protected g c
-  grey_protected = protected_map f g (λ d l. marked_greyer (gr.greyer d) l)
-      (λ r i n z. inr ((λ e. n (black_greyer (gr.greyer r) e)), ap (λ (l : List ℕ). at l i) (gr.greyer r).same_slots))
+  grey_protected h = grind (arith, protected_map, marked_greyer, black_greyer)
 
   grey_shrinks : Shrinks f g p q cur cur
   grey_shrinks = grind arith
 
   grey_heap : (size : ℕ) → HeapOk size f p cur → HeapOk size g q cur
-  grey_heap size ok = record {
-    no_zero = none_greyer (gr.greyer 0) ok.no_zero;
-    inside = λ c n. ok.inside c (unused_greyer (gr.greyer c) n);
-    colours = gr.colours ok.colours;
-    leads = leads_move grey_shrinks grey_keep ok.leads;
-    protects = λ t c e i. subst (λ (l : List ℕ). at l i ≢ 0 → Protected g (at l i)) (sym (gr.greyer c).same_slots)
-        (λ z. grey_protected (ok.protects (repeats_marking gr.repeats t) c (black_greyer (gr.greyer c) e) i z));
-  }
+  grey_heap size ok = grind (arith, none_greyer, unused_greyer, leads_move, grey_shrinks, grey_keep, grey_protected, repeats_marking, black_greyer)
 
   grey_job : (j : ℕ) (b : Job) → JobOk f p cur j b → JobOk g q cur j b
-  grey_job j b ok = job_move j b grey_keep
-      (λ t w h z. grey_protected (ok.protected (repeats_marking gr.repeats t) w h z))
-      (repeats_flags b.armed b.owes gr.repeats) ok
+  grey_job j b ok = grind (arith, job_move, grey_keep, grey_protected, repeats_marking, repeats_flags)
 
   grey_cards : (card : ℕ → Card) → CardsOk f p cur card → CardsOk g q cur card
-  grey_cards card ok = cards_move grey_shrinks.kept grey_shrinks.same_card (record {
-    unlive = λ k. grey_unlive (card k);
-    lives = λ k l h. grey_keep _ h;
-    clears = λ e k lo hi n z. go _ _ (ok.cleared (repeats_uncleaning gr.repeats e) k lo hi n) z
-        (gr.greyer (card k).record_at).how;
-  }) ok
-    where
-      go : (x y : Option Colour) → x ≢ Some White → y ≡ Some White → Turn x y → ⊥
-      go x y a z (inl h) = a (sym h ∙ z)
-      go x y a z (inr h) = a h.0
+  grey_cards card ok = grind (arith, cards_move, grey_shrinks, grey_unlive, grey_keep, repeats_uncleaning)
 
 pub greying_keeps : (s : State) (b : Book) (place : ℕ → ℕ) (g : ℕ → Cell) (q : Phase) → Inv s b place →
     Greys s.cell g s.phase q s.cursor → Inv (at_phase (with_cells s g) q s.cursor s.rounds) b place

@@ -1,15 +1,15 @@
 -- Calls of a job that make no record and grey none keep the invariant: open, close, park, wake, nod, load, copy, drop
 -- and follow.
-use Rattle.std.proofs.Common.{◌≡◌, ℕ, suc, ◌≤◌, true, false, not, eqb, ◌≢◌, ◌⊎◌, List, [], ◌∷◌, Result, sym, refl, ◌∙◌, subst, inl, inr, Some, arith}
+use Rattle.std.proofs.Common.{◌≡◌, ℕ, suc, true, not, eqb, ◌≢◌, ◌⊎◌, List, [], ◌∷◌, Result, sym, refl, ◌∙◌, subst, inl, inr, Some, arith}
 use Rattle.std.specs.Result.{result_unwrap_or}
-use borrow.Author.Tests.{eqb-false, not-true}
+use borrow.Author.Tests.{eqb-false}
 use Rattle.std.proofs.lemmas.Bool.{cond_both}
 use Rattle.refusal.specs.declared.Refusal.{Refusal}
 use Rattle.model.specs.declared.Colour.TheVariants.{Black}
 use Rattle.model.specs.declared.JobState.{JobState}
 use Rattle.model.specs.Book.{Book, hold, led}
 use Rattle.model.specs.Calls.{copy, drop_hand, follow, load}
-use Rattle.model.specs.Machine.{Job, State, at, closed_row, colour, empty_hands, hand, held, is_open, is_parked, set_hand, set_job, slots, upd, with_jobs}
+use Rattle.model.specs.Machine.{Job, State, at, closed_row, colour, hand, held, is_open, is_parked, set_hand, set_job, slots, upd, with_jobs}
 use Rattle.model.specs.Tables.{job_checks, opened_job, slot_ok, vacant_job, walk, walks}
 use Rattle.model.proofs.Colours.{black_or}
 use Rattle.model.proofs.Granted.{Passed, hand_range, not_zero}
@@ -23,20 +23,7 @@ parked_open t h = grind arith
 module _ (s : State) (b : Book) (place : ℕ → ℕ) (inv : Inv s b place) where
   pub open_keeps : not (eqb (vacant_job s) 0) ≡ true →
       Inv (with_jobs s (upd s.job (vacant_job s) (opened_job s.phase)) (vacant_job s)) b place
-  open_keeps e = row_alone_keeps s b place k k (opened_job s.phase) inv rng.1
-      (open_ok s.cell s.phase s.cursor k rng.0 rng.1) rel
-    where
-      k : ℕ
-      k = vacant_job s
-
-      rng : (1 ≤ k) × (k ≤ 16)
-      rng = vacant_range (λ j. not (is_open (s.job j).status)) s.last_job 16 inv.lasts.1 (not_zero k e)
-
-      shut : is_open (s.job k).status ≡ false
-      shut = not-true _ (vacant_passes (λ j. not (is_open (s.job j).status)) s.last_job 16 (not_zero k e))
-
-      rel : (g : ℕ) → StandsFor place (b.holds k g) (at empty_hands g)
-      rel g = subst (λ (v : ℕ). StandsFor place (b.holds k g) v) ((inv.jobs k).shut shut g ∙ sym (at_none g)) (inv.hands k g)
+  open_keeps e = grind (arith, row_alone_keeps, open_ok, vacant_range, not_zero, vacant_passes, at_none)
 
   pub close_keeps : (j : ℕ) → Inv (set_job s j closed_row) (record b { holds = upd b.holds j (λ h. 0) }) place
   close_keeps j = grind arith

@@ -82,10 +82,7 @@ module _ (s : State) (b : Book) (place : ℕ → ℕ) (inv : Inv s b place) wher
   still_newest : (pick m : ℕ) (n : Option (List ℕ)) → LiveCard s m → is_named n (s.card m).spelling ≡ false →
       upd place (suc b.count) pick (latest (upd b.name (suc b.count) n) (suc b.count) (s.card m).spelling) ≡ (s.card
       m).record_at
-  still_newest pick m n l other = ap (upd place (suc b.count) pick)
-      (latest_old b.name b.count n (s.card m).spelling other)
-      ∙ upd_other place (suc b.count) _ pick
-      (λ e. let q = latest_most b.name b.count (s.card m).spelling in omega arith) ∙ inv.recs.newest m l
+  still_newest pick m n l other = grind (arith, latest_old, upd_other, latest_most)
 
   module _ (pick w : ℕ) (right : FreeCell s pick) where
     taken_keeps : Inv (taken s pick 0 w) (new_record b w None) (upd place (suc b.count) pick)

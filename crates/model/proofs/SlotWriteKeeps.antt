@@ -96,11 +96,7 @@ module _ (f : ℕ → Cell) (p : Phase) (cur c i v : ℕ) (kept : Kept p cur c (
     slot_unlive x l = grind arith
 
     slot_cards : (card : ℕ → Card) → CardsOk f p cur card → CardsOk g p cur card
-    slot_cards card ok = cards_move unkeep (λ d h. same_no d) (record {
-      unlive = λ k. slot_unlive (card k);
-      lives = λ k l h. keep _ h;
-      clears = λ e k a b n z. ok.cleared e k a b n (sym (same_colour _) ∙ z);
-    }) ok
+    slot_cards card ok = grind (arith, cards_move, unkeep, same_no, slot_unlive, same_colour)
 
     module _ (card : ℕ → Card) (count : ℕ) (width : ℕ → ℕ) (slot : ℕ → ℕ → ℕ) (name : ℕ → Option (List ℕ)) (place : ℕ →
         ℕ) (r y : ℕ) (rc : StandsFor place r c) (nz : c ≢ 0) (yv : StandsFor place y v) where

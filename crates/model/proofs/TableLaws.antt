@@ -1,7 +1,7 @@
 -- Laws of tables, slot lists, searches and texts.
-use Rattle.std.proofs.Common.{◌≡◌, ℕ, zero, suc, ◌+◌, ◌-◌, ◌<◌, ◌≤◌, Bool, true, false, ◌≢◌, ◌⊎◌, List, [], length, get_or, set, replicate, sym, refl, ap, subst, inl, inr, arith, length-set, get_or-set_other, get_or-set_same}
+use Rattle.std.proofs.Common.{◌≡◌, ℕ, zero, suc, ◌+◌, ◌<◌, ◌≤◌, Bool, true, false, ◌≢◌, List, [], length, replicate, refl, subst, inl, inr, arith, length-set, get_or-set_other, get_or-set_same}
 use Rattle.std.proofs.lemmas.Bool.{cases_eq, cond_both}
-use Rattle.model.specs.Machine.{at, first, next_vacant, or_else, put, upd}
+use Rattle.model.specs.Machine.{at, first, next_vacant, put, upd}
 
 pub upd_elim : {A : Type 0} (P : A → Type 0) (f : ℕ → A) (i j : ℕ) (v : A) → (i ≡ j → P v) → (i ≢ j → P (f j)) → P (upd f i v j)
 upd_elim P f i j v a b = grind arith
@@ -15,17 +15,10 @@ upd_other f i j v h = grind arith
 -- one element of a list changed
 pub put_elim : (P : ℕ → Type 0) (l : List ℕ) (i j v : ℕ) → (i ≡ j → P v) → (i ≢ j → P (at l j)) → 1 ≤ i → i ≤ length l →
     P (at (put l i v) j)
-put_elim P l zero j v a b h k = absurd (omega arith)
-put_elim P l (suc i) zero v a b h k = b (λ e. omega arith)
-put_elim P l (suc i) (suc j) v a b h k = go (cases_eq i j)
-  where
-    go : (i ≡ j) ⊎ (i ≡ j → ⊥) → P (get_or (set l i v) j 0)
-    go (inl e) = subst (λ (n : ℕ). P (get_or (set l i v) n 0)) e (subst P (sym (get_or-set_same l i v 0 k)) (a (ap suc e)))
-    go (inr n) = subst P (sym (get_or-set_other l i j v 0 (λ e. n (sym e)))) (b (λ e. n (omega arith)))
+put_elim P l i j v a b h k = grind (arith, get_or-set_same, get_or-set_other)
 
 pub length_put : (l : List ℕ) (i v : ℕ) → length (put l i v) ≡ length l
-length_put l zero v = refl
-length_put l (suc i) v = length-set l i v
+length_put l i v = grind (arith, length-set)
 
 pub at_zeros : (n i : ℕ) → at (replicate n 0) i ≡ 0
 at_zeros n zero = refl
@@ -64,21 +57,12 @@ first_none t a (suc n) p h k lo hi = cond_both (t a) a (first t (suc a) n) (λ r
 -- the next vacant place passes the test and is in range
 pub vacant_passes : (t : ℕ → Bool) (last n : ℕ) → next_vacant t last n ≢ 0 → t (next_vacant t last n) ≡ true
 unfolding next_vacant
-vacant_passes t last n h = go (first t (suc last) (n - last)) refl h
-  where
-    go : (r : ℕ) → first t (suc last) (n - last) ≡ r → or_else r (first t 1 last) ≢ 0 → t (or_else r (first t 1 last)) ≡ true
-    go zero e k = first_passes t 1 last k
-    go (suc r) e k = subst (λ (m : ℕ). t m ≡ true) e (first_passes t (suc last) (n - last) (λ z. omega arith))
+vacant_passes t last n h = grind (arith, first_passes)
 
 pub vacant_range : (t : ℕ → Bool) (last n : ℕ) → last ≤ n → next_vacant t last n ≢ 0 →
     (1 ≤ next_vacant t last n) × (next_vacant t last n ≤ n)
 unfolding next_vacant
-vacant_range t last n small h = go (first t (suc last) (n - last)) refl h
-  where
-    go : (r : ℕ) → first t (suc last) (n - last) ≡ r → or_else r (first t 1 last) ≢ 0 →
-        (1 ≤ or_else r (first t 1 last)) × (or_else r (first t 1 last) ≤ n)
-    go zero e k = let r = first_range t 1 last k in (omega arith, omega arith)
-    go (suc r) e k = let q = first_range t (suc last) (n - last) (λ z. omega arith) in (omega arith, omega arith)
+vacant_range t last n small h = grind (arith, first_range)
 
 pub upd_all : {A : Type 0} (P : ℕ → A → Type 0) (f : ℕ → A) (i : ℕ) (v : A) → P i v → ((j : ℕ) → i ≢ j → P j (f j)) →
     (j : ℕ) → P j (upd f i v j)

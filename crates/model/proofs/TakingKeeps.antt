@@ -2,16 +2,16 @@
 use Rattle.std.proofs.Common.{◌≡◌, ℕ, zero, suc, ◌<◌, ◌≤◌, true, false, ◌≢◌, ◌⊎◌, List, replicate, sym, refl, ap, ◌∙◌, subst, inl, inr, suc-ne-zero, arith, Option, Some, None}
 use lib.ListN.{length-replicate}
 use Rattle.std.proofs.lemmas.Bool.{cases_eq, cond_both}
-use Rattle.model.specs.declared.Colour.TheVariants.{Black, White}
+use Rattle.model.specs.declared.Colour.TheVariants.{White}
 use Rattle.model.specs.declared.Phase.{Phase}
 use Rattle.model.specs.declared.Phase.TheVariants.{Cleaning}
 use Rattle.model.specs.Book.{is_named, latest}
 use Rattle.model.specs.Cycle.{new_colour}
-use Rattle.model.specs.Machine.{Card, Cell, Job, at, bears, card_of, colour, slots, upd, used}
+use Rattle.model.specs.Machine.{Card, Cell, Job, bears, card_of, colour, upd, used}
 use Rattle.model.specs.Promise.{Bears}
 use Rattle.model.proofs.Carried.{job_move, protected_map}
 use Rattle.model.proofs.Colours.{free_slots, marked_used, some_none}
-use Rattle.model.proofs.Invariant.{CardsOk, ColourOk, HeapOk, JobOk, Kept, Live, Marked, Protected, RecOk, RecsOk, Spared, StandsFor}
+use Rattle.model.proofs.Invariant.{CardsOk, ColourOk, HeapOk, JobOk, Kept, Live, Protected, RecOk, RecsOk, Spared, StandsFor}
 use Rattle.model.proofs.TableLaws.{at_zeros, upd_all, upd_elim, upd_other, upd_same}
 
 new_colour_ok : (p : Phase) (cur c : ℕ) → ColourOk p cur c (Some (new_colour p cur c))
@@ -57,10 +57,7 @@ module _ (f : ℕ → Cell) (p : Phase) (cur pick k w : ℕ) (vac : colour (f pi
   take_keep x d h = grind arith
 
   take_protected : (x : Cell) {d : ℕ} → Protected f d → Protected (upd f pick x) d
-  take_protected x = protected_map f (upd f pick x)
-      (λ d l. subst (λ (y : Cell). Marked (colour y)) (sym (take_old x d (marked_used (f d) l))) l)
-      (λ q i n z. inr (upd_elim (λ y. (colour y ≢ Some Black) × (at (slots y) i ≡ at (slots (f q)) i)) f pick q x
-      (λ e. absurd (z (free_slots (f q) (subst (λ (m : ℕ). colour (f m) ≡ None) e vac) i))) (λ e. (n, refl))))
+  take_protected x h = grind (arith, protected_map, take_old, marked_used, upd_elim, free_slots)
 
   abbrev X : Cell
   X = used (new_colour p cur pick) k (replicate w 0)
@@ -69,17 +66,7 @@ module _ (f : ℕ → Cell) (p : Phase) (cur pick k w : ℕ) (vac : colour (f pi
   new_kept = grind arith
 
   pub take_heap : (size : ℕ) → 1 ≤ pick → pick ≤ size → HeapOk size f p cur → HeapOk size (upd f pick X) p cur
-  take_heap size lo hi ok = record {
-    no_zero = ap colour (upd_other f pick 0 X (λ e. omega arith)) ∙ ok.no_zero;
-    inside = upd_all (λ c y. colour y ≢ None → c ≤ size) f pick X (λ n. hi) (λ c e. ok.inside c);
-    colours = upd_all (λ c y. ColourOk p cur c (colour y)) f pick X (new_colour_ok p cur pick) (λ c e. ok.colours c);
-    leads = upd_all (λ c y. Kept p cur c y → (i : ℕ) → at (slots y) i ≢ 0 →
-        Kept p cur (at (slots y) i) (upd f pick X (at (slots y) i))) f pick X
-        (λ h i n. absurd (n (at_zeros w i))) (λ c e h i n. take_keep X _ (ok.leads c h i n));
-    protects = λ t. upd_all (λ c y. colour y ≡ Some Black → (i : ℕ) → at (slots y) i ≢ 0 →
-        Protected (upd f pick X) (at (slots y) i)) f pick X
-        (λ h i n. absurd (n (at_zeros w i))) (λ c e h i n. take_protected X (ok.protects t c h i n));
-  }
+  take_heap size lo hi ok = grind (arith, upd_other, upd_all, new_colour_ok, at_zeros, take_keep, take_protected)
 
   pub take_job : (j : ℕ) (b : Job) → JobOk f p cur j b → JobOk (upd f pick X) p cur j b
   take_job j b ok = job_move j b (take_keep X) (λ t o h z. take_protected X (ok.protected t o h z)) (λ g. g) ok
@@ -98,14 +85,7 @@ module _ (f : ℕ → Cell) (p : Phase) (cur pick k w : ℕ) (vac : colour (f pi
 
   -- the cards, if none is filed
   pub take_cards : k ≡ 0 → (card : ℕ → Card) → CardsOk f p cur card → CardsOk (upd f pick X) p cur card
-  take_cards z card ok = record {
-    ranged = ok.ranged;
-    live = take_live card ok;
-    back = upd_all (λ c y. Kept p cur c y → card_of y ≢ 0 → (card (card_of y)).record_at ≡ c) f pick X (λ h n. absurd (n z))
-        (λ c e. ok.back c);
-    distinct = λ m n a b e. ok.distinct m n (take_unlive (card m) a) (take_unlive (card n) b) e;
-    cleared = take_clear card ok;
-  }
+  take_cards z card ok = grind (arith, take_live, upd_all, take_unlive, take_clear)
 
   -- a kept record's card is not one that reads as empty
   pub not_empty : (card : ℕ → Card) (size : ℕ) → HeapOk size f p cur → CardsOk f p cur card → (Live f p (card k) → ⊥) →

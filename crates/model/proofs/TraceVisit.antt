@@ -1,6 +1,5 @@
 -- The visit of a grey cell by a trace step keeps the invariant.
-use Rattle.std.proofs.Common.{◌≡◌, ℕ, ◌≢◌, ◌⊎◌, List, sym, refl, ap, ◌∙◌, subst, inl, inr, Some, None, arith}
-use Rattle.std.proofs.lemmas.Bool.{cases_eq}
+use Rattle.std.proofs.Common.{◌≡◌, ℕ, ◌≢◌, List, sym, ap, ◌∙◌, subst, Some, None, arith}
 use Rattle.model.specs.declared.Colour.TheVariants.{Black, Grey}
 use Rattle.model.specs.declared.Phase.TheVariants.{Repeat}
 use Rattle.model.specs.Book.{Book}
@@ -39,14 +38,7 @@ module _ (f : ℕ → Cell) (cur c : ℕ) (n : colour (f c) ≢ None) (all : (i 
   black_marked d h = grind arith
 
   black_protected : {d : ℕ} → Protected f d → Protected g d
-  black_protected = protected_map f g black_marked (λ q i u z. go q i u z (cases_eq c q))
-    where
-      go : (q i : ℕ) → colour (f q) ≢ Some Black → at (slots (f q)) i ≢ 0 → (c ≡ q) ⊎ (c ≡ q → ⊥) →
-          Marked (colour (g (at (slots (f q)) i))) ⊎ ((colour (g q) ≢ Some Black) × (at (slots (g q)) i ≡ at (slots (f q)) i))
-      go q i u z (inl e) = inl (black_marked _
-          (subst (λ (m : ℕ). at (slots (f m)) i ≢ 0 → Marked (colour (f (at (slots (f m)) i)))) e (all i) z))
-      go q i u z (inr e) = inr (subst (λ (y : Cell). (colour y ≢ Some Black) × (at (slots y) i ≡ at (slots (f q)) i))
-          (sym (upd_other f c q (painted Black (f c)) e)) (u, refl))
+  black_protected h = grind (arith, protected_map, black_marked, upd_other)
 
 black_keeps : (s : State) (b : Book) (place : ℕ → ℕ) (c : ℕ) → Inv (at_phase s Repeat s.cursor s.rounds) b place →
     colour (s.cell c) ≢ None → ((i : ℕ) → at (slots (s.cell c)) i ≢ 0 → Marked (colour (s.cell (at (slots (s.cell c)) i)))) →

@@ -1,8 +1,6 @@
 -- What no hand reaches from begin to the commit is freed by the cycle's end.
-use Rattle.std.proofs.Common.{◌≡◌, ℕ, ◌<◌, ◌≤◌, ◌≢◌, ◌⊎◌, sym, refl, ap, ◌∙◌, subst, inl, inr, arith, Option, Some, None}
+use Rattle.std.proofs.Common.{◌≡◌, ℕ, ◌<◌, ◌≤◌, ◌≢◌, ◌⊎◌, sym, refl, ap, ◌∙◌, subst, inl, inr, arith}
 use Rattle.std.proofs.lemmas.Bool.{cases_lt}
-use Rattle.model.specs.declared.Colour.{Colour}
-use Rattle.model.specs.declared.Colour.TheVariants.{Black, Grey}
 use Rattle.model.specs.declared.Phase.{Phase}
 use Rattle.model.specs.declared.Phase.TheVariants.{Cleaning, Normal}
 use Rattle.model.specs.Book.{Book, Leads, Reached, from_hand, here, through}
@@ -12,7 +10,7 @@ use Rattle.model.specs.Runs.{Commits, Granted, Later, Picks, Run, Through, Unrea
 use Rattle.model.proofs.CallChanges.{Touched, from_marked, in_hand, in_slot}
 use Rattle.model.proofs.Colours.{marked_used}
 use Rattle.model.proofs.Granted.{granted_next, next_cases}
-use Rattle.model.proofs.Invariant.{ColourOk, Keeps, Kept, Marked, Sound}
+use Rattle.model.proofs.Invariant.{Keeps, Kept, Marked, Sound}
 use Rattle.model.proofs.PhaseCases.{phase_is}
 use Rattle.model.proofs.RunsKeep.{next_sound, run_sound, through_sound}
 use Rattle.model.proofs.StepChanges.{next_changes, next_count, next_edge, next_place, step_book}
@@ -126,17 +124,7 @@ record Doomed (x : World) (t : ℕ) : Type 0 where
 
 next_doomed : (x : World) (c : Call) (pick : ℕ) → Picks x.state pick → Sound x → (t : ℕ) → Doomed x t →
     Doomed (next x c pick) t
-next_doomed x c pick right inv t dm = record {
-  made = let a = next_count x c pick right inv in let b = dm.made in omega arith;
-  doom = λ n k. go n ((next_changes x c pick right inv).back ((next x c pick).place t) k);
-}
-  where
-    go : (next x c pick).place t ≢ 0 → Keeps x.state ((next x c pick).place t) ⊎
-        (colour (x.state.cell ((next x c pick).place t)) ≡ None) → ⊥
-    go n (inl k) = let e = next_place x c pick right inv t dm.made n in dm.doom (λ z. n (e ∙ z))
-        (subst (λ (v : ℕ). Keeps x.state v) e k)
-    go n (inr k) = let e = next_place x c pick right inv t dm.made n in inv.recs.stands t (λ z. n (e ∙ z))
-        (ap (λ (v : ℕ). colour (x.state.cell v)) (sym e) ∙ k)
+next_doomed x c pick right inv t dm = grind (arith, next_count, next_changes, next_place)
 
 cleaning_marked : (x : Cell) (cur c : ℕ) → Kept Cleaning cur c x → Marked (colour x)
 cleaning_marked x cur c k = grind arith
@@ -166,24 +154,7 @@ later_doomed t (more {y = y} l c pick right p) g d = next_doomed y c pick right 
 -- begin: nothing is grey or black
 begin_untraced : (x : World) (t pick : ℕ) → Picks x.state pick → Sound x → x.place t ≢ 0 →
     Granted x begin pick → Untraced (next x begin pick) t
-begin_untraced x t pick right inv n e = record {
-  made = let more = next_count x begin pick right inv in elim (cases_lt x.book.count t)
-      [ inl w ↦ absurd (n (inv.recs.unmade t w)) | inr w ↦ omega arith ];
-  no_path = λ d l r p ld. none_marked (colour (x.state.cell d)) (white d).0 (white d).1
-      (subst (λ (c : Cell). Marked (colour c)) (same_cell d) l);
-}
-  where
-    same_cell : (d : ℕ) → (next x begin pick).state.cell d ≡ x.state.cell d
-    same_cell d = next_cases x begin pick (λ y. y.state.cell d ≡ x.state.cell d) refl (λ p. refl)
-
-    white : (d : ℕ) → ColourOk Normal x.state.cursor d (colour (x.state.cell d))
-    white d = subst (λ (p : Phase). ColourOk p x.state.cursor d (colour (x.state.cell d)))
-        (phase_is Normal _ (granted_next x begin pick e).0.0) (inv.heap.colours d)
-
-    none_marked : (l : Option Colour) → l ≢ Some Grey → l ≢ Some Black → Marked l → ⊥
-    none_marked (Some Grey) g b h = g refl
-    none_marked (Some Black) g b h = b refl
-    none_marked _ g b h = h
+begin_untraced x t pick right inv n e = grind (arith, next_count, next_cases, phase_is, granted_next)
 
 pub frees : (x y z : World) → Run x → (r first last : ℕ) → x.place r ≢ 0 →
     Picks x.state first → Granted x begin first → Through (Unreached r) (next x begin first) y →

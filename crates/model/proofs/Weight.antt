@@ -8,9 +8,9 @@ use Rattle.model.specs.declared.Phase.{Phase}
 use Rattle.model.specs.declared.Phase.TheVariants.{Repeat, Tracing}
 use Rattle.model.specs.Book.{Book}
 use Rattle.model.specs.Calls.{Action, text}
-use Rattle.model.specs.Cycle.{grey_if, greyed, new_colour, nodded, repeating}
+use Rattle.model.specs.Cycle.{grey_if, greyed, nodded, repeating}
 use Rattle.model.specs.Machine.{Card, Cell, Job, State, at, colour, filed, is_tracing, is_white, slots, upd, with_cards, with_jobs}
-use Rattle.model.specs.Tables.{barrier, filed_on, find_greys, found_into, job_effect, set_slot, settle_on, store_greys_new, stored, taken, vacant_card}
+use Rattle.model.specs.Tables.{barrier, filed_on, find_greys, found_into, job_effect, set_slot, settle_on, store_greys_new, stored, taken}
 use Rattle.model.proofs.BarrierKeeps.{greyer_if, repeats_repeating}
 use Rattle.model.proofs.CallsByEffect.{Effect, finds, makes, nods, rows_alone, settles_name, stores}
 use Rattle.model.proofs.Colours.{white_is}
@@ -122,22 +122,15 @@ steady_cards s f l = steady_cells s (with_cards s f l) refl refl refl refl (λ t
 
 steady_slot : (s : State) (c i v : ℕ) → Steady s (set_slot s c i v)
 unfolding set_slot
-steady_slot s c i v = steady_cells s (set_slot s c i v) refl refl refl refl
-    (λ t d. let q = ap weight (slot_same_colour s.cell c i v d) in omega arith)
+steady_slot s c i v = grind (arith, steady_cells, slot_same_colour)
 
 steady_taken : (s : State) (pick k w : ℕ) → Steady s (taken s pick k w)
 unfolding taken
-steady_taken s pick k w = steady_cells s (taken s pick k w) refl refl refl refl
-    (λ t d. upd_elim (λ y. weight (colour y) ≤ weight (colour (s.cell d))) s.cell pick d _
-    (λ e. let q = new_black s.phase s.cursor pick t in omega arith) (λ e. omega arith))
-  where
-    new_black : (p : Phase) (cur c : ℕ) → T (is_tracing p) → weight (Some (new_colour p cur c)) ≤ 0
-    new_black p cur c = tracing_cases (λ q. weight (Some (new_colour q cur c)) ≤ 0) (omega arith) (omega arith) p
+steady_taken s pick k w = grind (arith, steady_cells, upd_elim, tracing_cases)
 
 pub steady_nod : (s : State) (j : ℕ) → Steady s (nodded s j)
 unfolding nodded
-steady_nod s j = steady_cells s (nodded s j) refl refl refl refl
-    (λ t d. greyer_weight _ _ ((nod_greys s.phase s.cell (s.job j).hands s.cursor).greyer d))
+steady_nod s j = grind (arith, steady_cells, greyer_weight, nod_greys)
 
 -- greying one cell by a call
 steady_grey : (s : State) (t : Bool) (c : ℕ) → colour (s.cell 0) ≡ None → ((d : ℕ) → colour (s.cell d) ≢ None → d ≤ s.size) →
@@ -189,10 +182,7 @@ module _ (s : State) (b : Book) (place : ℕ → ℕ) (pick : ℕ) (inv : Inv s 
 
   steady_settle : (k j : ℕ) (t : List ℕ) (h w : ℕ) → Steady s (settle_on k s j t h w pick).after
   unfolding filed_on
-  steady_settle zero j t h w = steady_trans (steady_trans (steady_taken s pick (vacant_card s) w)
-      (steady_cards (taken s pick (vacant_card s) w) _ _))
-      (steady_rows (filed_on (taken s pick (vacant_card s) w) (vacant_card s) t pick) _ _)
-  steady_settle (suc k) j t h w = steady_found j h _
+  steady_settle k j t h w = grind (arith, steady_trans, steady_taken, steady_cards, steady_rows, steady_found)
 
   pub steady_job : (j : ℕ) (a : Action) → Effect s j pick a → Steady s (job_effect s j a pick).after
   steady_job j a (rows_alone rows e) = subst (λ (x : State). Steady s x) (sym e) (steady_rows s rows s.last_job)
