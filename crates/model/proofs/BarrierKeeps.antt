@@ -1,7 +1,6 @@
 -- Greying one cell by a call keeps the invariant: the barriers of find, settle and store.
-use Rattle.std.proofs.Common.{◌≡◌, ℕ, Bool, true, false, cond, ◌&&◌, ◌≢◌, ◌⊎◌, refl, Option, Some, None, arith}
+use Rattle.std.proofs.Common.{◌≡◌, ℕ, Bool, true, false, cond, ◌&&◌, ◌≢◌, ◌⊎◌, refl, Some, None, arith}
 use Rattle.std.proofs.lemmas.Bool.{cond_both}
-use Rattle.model.specs.declared.Colour.{Colour}
 use Rattle.model.specs.declared.Colour.TheVariants.{Grey, White}
 use Rattle.model.specs.declared.Phase.{Phase}
 use Rattle.model.specs.declared.Phase.TheVariants.{Tracing}
@@ -10,15 +9,6 @@ use Rattle.model.specs.Cycle.{grey_if, greyed, repeating}
 use Rattle.model.specs.Machine.{Cell, State, colour, is_white, upd}
 use Rattle.model.proofs.GreyingKeeps.{AllGreyer, Greys, Repeats, grey_one, greying_keeps, greys_refl, stays, turns}
 use Rattle.model.proofs.Invariant.{ColourOk, Greying, Inv, Marked, Spared}
-
-greying_spared : (p : Phase) (cur d : ℕ) → Greying p → Spared p cur d
-greying_spared p cur d h = grind arith
-
-greying_grey : (p : Phase) (cur d : ℕ) → Greying p → ColourOk (repeating p) cur d (Some Grey)
-greying_grey p cur d h = grind arith
-
-greying_colour : (p : Phase) (cur d : ℕ) (l : Option Colour) → Greying p → ColourOk p cur d l → ColourOk (repeating p) cur d l
-greying_colour p cur d l h h' = grind arith
 
 pub repeats_repeating : (p : Phase) → Repeats p (repeating p)
 repeats_repeating Tracing = turns

@@ -27,9 +27,6 @@ marked_used x l = grind arith
 pub free_is : (x : Cell) → is_free x ≡ true → colour x ≡ None
 free_is x e = grind arith
 
-pub free_not : (x : Cell) → is_free x ≡ false → colour x ≢ None
-free_not x e = grind arith
-
 pub white_is : (x : Cell) → is_white x ≡ true → colour x ≡ Some White
 white_is x e = grind arith
 

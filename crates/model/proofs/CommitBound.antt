@@ -43,10 +43,6 @@ bounded Tracing n r cur t w b = let q = below_limit n r cur t b.1 b.2 (omega ari
 bounded Repeat n r cur t w b = let q = below_limit n r cur t b.1 b.2 (omega arith) in (omega arith, λ z. q)
 bounded _ n r cur t w b = (b, λ z. absurd z)
 
--- a call of a job
-lighter_bounded : (p : Phase) (n r cur t w w' : ℕ) → (T (is_tracing p) → w' ≤ w) → Bounded p n r cur t w → Bounded p n r cur t w'
-lighter_bounded p n r cur t w w' le b = grind arith
-
 repeats_bounded : {p q : Phase} (n r cur t w w' : ℕ) → Repeats p q → (T (is_tracing p) → w' ≤ w) →
     (p ≡ Tracing → q ≡ Repeat → w' < w) → Bounded p n r cur t w → Bounded q n r cur t w'
 repeats_bounded n r cur t w w' h le lt b = grind arith

@@ -9,7 +9,7 @@ use Rattle.model.specs.Cycle.{grey_all, greyed}
 use Rattle.model.specs.Machine.{Card, Cell, Job, State, at, at_phase, card_of, colour, slots, upd, with_cells}
 use Rattle.model.proofs.Carried.{Shrinks, cards_move, job_move, leads_move, protected_map, recs_move}
 use Rattle.model.proofs.Colours.{grey_white}
-use Rattle.model.proofs.Invariant.{CardsOk, ColourOk, Flags, Greying, HeapOk, Inv, JobOk, Kept, Live, Marked, Marking, Protected, Spared}
+use Rattle.model.proofs.Invariant.{CardsOk, ColourOk, Flags, HeapOk, Inv, JobOk, Kept, Live, Marked, Marking, Protected, Spared}
 use Rattle.model.proofs.TableLaws.{upd_elim}
 
 -- a colour stays, or turns from white to grey
@@ -27,9 +27,6 @@ greyer_refl x = grind arith
 
 greyer_trans : {x y z : Cell} → Greyer x y → Greyer y z → Greyer x z
 greyer_trans a b = grind arith
-
-pub greyer_greyed : (x : Cell) → Greyer x (greyed x)
-greyer_greyed x = grind arith
 
 abbrev pub AllGreyer : (ℕ → Cell) → (ℕ → Cell) → Type 0
 AllGreyer f g = (d : ℕ) → Greyer (f d) (g d)
@@ -56,10 +53,6 @@ black_greyer a v = grind arith
 
 pub none_greyer : {x y : Cell} → Greyer x y → colour x ≡ None → colour y ≡ None
 none_greyer a v = grind arith
-
--- after greying, a used cell is grey or black
-marked_greyed : (x : Cell) → colour x ≢ None → Marked (colour (greyed x))
-marked_greyed x n = grind arith
 
 pub greyed_grey : (x : Cell) → colour x ≡ Some White → colour (greyed x) ≡ Some Grey
 greyed_grey x e = grind arith
@@ -101,23 +94,11 @@ pub data Repeats : Phase → Phase → Type 0 where
   stays : {p : Phase} → Repeats p p
   turns : Repeats Tracing Repeat
 
-repeats_spared : {p q : Phase} (cur d : ℕ) → Repeats p q → Spared p cur d → Spared q cur d
-repeats_spared cur d h s = grind arith
-
-repeats_unspared : {p q : Phase} (cur d : ℕ) → Repeats p q → Spared q cur d → Spared p cur d
-repeats_unspared cur d h s = grind arith
-
 pub repeats_marking : {p q : Phase} → Repeats p q → Marking q → Marking p
 repeats_marking h t = grind arith
 
-pub repeats_greying : {p q : Phase} → Repeats p q → Greying p → Greying q
-repeats_greying h t = grind arith
-
 repeats_flags : {p q : Phase} (a o : Bool) → Repeats p q → Flags p a o → Flags q a o
 repeats_flags a o h t = grind arith
-
-repeats_cleaning : {p q : Phase} → Repeats p q → p ≡ Cleaning → q ≡ Cleaning
-repeats_cleaning h e = grind arith
 
 repeats_uncleaning : {p q : Phase} → Repeats p q → q ≡ Cleaning → p ≡ Cleaning
 repeats_uncleaning h e = grind arith

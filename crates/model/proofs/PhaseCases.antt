@@ -1,16 +1,12 @@
 -- Arguments by phase, said once for each set of phases.
 use Rattle.std.proofs.Common.{◌≡◌, true, T, arith}
 use Rattle.model.specs.declared.Phase.{Phase}
-use Rattle.model.specs.declared.Phase.TheVariants.{Arming, Repeat, Scanning, Tracing}
+use Rattle.model.specs.declared.Phase.TheVariants.{Repeat, Scanning, Tracing}
 use Rattle.model.specs.Machine.{in_phase, is_tracing}
-use Rattle.model.proofs.Invariant.{Greying, Marking}
+use Rattle.model.proofs.Invariant.{Marking}
 
 pub phase_is : (q p : Phase) → in_phase q p ≡ true → p ≡ q
 phase_is q p e = grind arith
-
--- what holds in each phase in which calls grey records
-pub greying_cases : (P : Phase → Type 0) → P Arming → P Scanning → P Tracing → P Repeat → (p : Phase) → Greying p → P p
-greying_cases P a s t r p g = grind arith
 
 -- ... in each phase of marking
 pub marking_cases : (P : Phase → Type 0) → P Scanning → P Tracing → P Repeat → (p : Phase) → Marking p → P p

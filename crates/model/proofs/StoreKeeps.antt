@@ -10,15 +10,8 @@ use Rattle.model.specs.Tables.{barrier, job_checks, set_slot, store_greys_new, s
 use Rattle.model.proofs.BarrierKeeps.{grey_keeps, greys_if, marked_if}
 use Rattle.model.proofs.Granted.{Passed, not_zero, slot_range}
 use Rattle.model.proofs.GreyingKeeps.{Greys, grey_keep, marked_greyer, repeats_marking}
-use Rattle.model.proofs.Invariant.{Flags, Greying, Inv, Kept, Marked, Marking, Protected, Spared, marked}
+use Rattle.model.proofs.Invariant.{Flags, Greying, Inv, Kept, Marked, Marking, Protected, marked}
 use Rattle.model.proofs.SlotWriteKeeps.{slot_keeps}
-
--- an armed job stores over a spared record only where calls grey
-armed_greying : (p : Phase) (cur d : ℕ) (armed owes : Bool) → armed ≡ true → Flags p armed owes → Spared p cur d → Greying p
-armed_greying p cur d armed owes e g z = grind arith
-
-new_greying : (p : Phase) → store_greys_new p ≡ true → Greying p
-new_greying p e = grind arith
 
 -- in the phases of marking every job is armed, and one that still owes a nod greys what it writes
 marking_armed : (p : Phase) (armed owes : Bool) → Marking p → Flags p armed owes → armed ≡ true

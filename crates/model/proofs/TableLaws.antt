@@ -1,5 +1,5 @@
 -- Laws of tables, slot lists, searches and texts.
-use Rattle.std.proofs.Common.{◌≡◌, ℕ, zero, suc, ◌+◌, ◌<◌, ◌≤◌, Bool, true, false, ◌≢◌, List, [], length, replicate, refl, subst, inl, inr, arith, length-set, get_or-set_other, get_or-set_same}
+use Rattle.std.proofs.Common.{◌≡◌, ℕ, zero, suc, ◌+◌, ◌<◌, ◌≤◌, Bool, true, false, ◌≢◌, List, length, replicate, refl, subst, inl, inr, arith, length-set, get_or-set_other, get_or-set_same}
 use Rattle.std.proofs.lemmas.Bool.{cases_eq, cond_both}
 use Rattle.model.specs.Machine.{at, first, next_vacant, put, upd}
 
@@ -25,9 +25,6 @@ at_zeros n zero = refl
 at_zeros zero (suc i) = refl
 at_zeros (suc n) (suc zero) = refl
 at_zeros (suc n) (suc (suc i)) = at_zeros n (suc i)
-
-pub at_nil : (i : ℕ) → at [] i ≡ 0
-at_nil i = grind arith
 
 -- the search: what it finds passes the test and stands in the range; where it finds nothing, nothing passes
 pub first_passes : (t : ℕ → Bool) (a n : ℕ) → first t a n ≢ 0 → t (first t a n) ≡ true
@@ -67,7 +64,3 @@ vacant_range t last n small h = grind (arith, first_range)
 pub upd_all : {A : Type 0} (P : ℕ → A → Type 0) (f : ℕ → A) (i : ℕ) (v : A) → P i v → ((j : ℕ) → i ≢ j → P j (f j)) →
     (j : ℕ) → P j (upd f i v j)
 upd_all P f i v p q j = grind arith
-
-pub upd_both : {A B : Type 0} (P : ℕ → A → B → Type 0) (f : ℕ → A) (g : ℕ → B) (i : ℕ) (v : A) (w : B) → P i v w →
-    ((j : ℕ) → i ≢ j → P j (f j) (g j)) → (j : ℕ) → P j (upd f i v j) (upd g i w j)
-upd_both P f g i v w p q j = grind arith

@@ -11,14 +11,11 @@ use Rattle.model.specs.Machine.{Card, Cell, Job, bears, card_of, colour, upd, us
 use Rattle.model.specs.Promise.{Bears}
 use Rattle.model.proofs.Carried.{job_move, protected_map}
 use Rattle.model.proofs.Colours.{free_slots, marked_used, some_none}
-use Rattle.model.proofs.Invariant.{CardsOk, ColourOk, HeapOk, JobOk, Kept, Live, Protected, RecOk, RecsOk, Spared, StandsFor}
+use Rattle.model.proofs.Invariant.{CardsOk, ColourOk, HeapOk, JobOk, Kept, Live, Protected, RecOk, RecsOk, StandsFor}
 use Rattle.model.proofs.TableLaws.{at_zeros, upd_all, upd_elim, upd_other, upd_same}
 
 new_colour_ok : (p : Phase) (cur c : ℕ) → ColourOk p cur c (Some (new_colour p cur c))
 new_colour_ok p cur c = grind arith
-
-new_spared : (p : Phase) (cur c : ℕ) → Some (new_colour p cur c) ≡ Some White → Spared p cur c
-new_spared p cur c e = grind arith
 
 new_cleaning : (p : Phase) (cur c : ℕ) → p ≡ Cleaning → Some (new_colour p cur c) ≢ Some White
 new_cleaning p cur c e = grind arith
@@ -47,9 +44,6 @@ unfolding latest
 latest_old f n v sp h = rw (upd_same f (suc n) v, h) (latest_below f (suc n) n v sp (omega arith))
 
 module _ (f : ℕ → Cell) (p : Phase) (cur pick k w : ℕ) (vac : colour (f pick) ≡ None) where
-  not_pick : (d : ℕ) → colour (f d) ≢ None → pick ≢ d
-  not_pick d n = grind arith
-
   take_old : (x : Cell) (d : ℕ) → colour (f d) ≢ None → upd f pick x d ≡ f d
   take_old x d n = grind arith
 

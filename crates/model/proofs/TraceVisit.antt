@@ -14,9 +14,6 @@ use Rattle.model.proofs.TableLaws.{upd_all, upd_elim, upd_other}
 black_slots : (x : Cell) → slots (painted Black x) ≡ slots x
 black_slots x = grind arith
 
-black_card : (x : Cell) → card_of (painted Black x) ≡ card_of x
-black_card x = grind arith
-
 pub black_colour : (x : Cell) → colour x ≢ None → colour (painted Black x) ≡ Some Black
 black_colour x n = grind arith
 
