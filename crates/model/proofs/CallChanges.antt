@@ -1,8 +1,7 @@
 -- What a call may change of kept records, names and marks: nothing becomes kept that was not; names stay on file but at
 -- the commit; and whatever becomes marked is held, or a held record or a marked one leads to it.
-use Rattle.std.proofs.Common.{◌≡◌, ℕ, zero, suc, ◌≤◌, Bool, true, false, not, ◌≢◌, ◌⊎◌, List, length, sym, refl, ap, ◌∙◌, subst, inl, inr, arith, eq-eqb, Some, None}
+use Rattle.std.proofs.Common.{◌≡◌, ℕ, zero, suc, ◌≤◌, Bool, true, false, not, ◌≢◌, ◌⊎◌, List, length, sym, refl, ap, ◌∙◌, subst, inl, inr, arith, eq-eqb, None}
 use Rattle.std.proofs.lemmas.Bool.{cond_both}
-use Rattle.model.specs.declared.Colour.TheVariants.{White}
 use Rattle.model.specs.declared.Phase.TheVariants.{Cleaning, Scanning, Tracing}
 use Rattle.model.specs.Book.{Book}
 use Rattle.model.specs.Calls.{Action, Call, Spelling, by, settle, step, text}
@@ -16,7 +15,7 @@ use Rattle.model.proofs.CardsRead.{empty_dead}
 use Rattle.model.proofs.Colours.{kept_colour}
 use Rattle.model.proofs.Granted.{Passed, hand_range, not_zero, or_second}
 use Rattle.model.proofs.GreyingKeeps.{Greys, grey_live, grey_unkeep, marked_in}
-use Rattle.model.proofs.Invariant.{Inv, Keeps, Kept, Live, LiveCard, Marked}
+use Rattle.model.proofs.Invariant.{Inv, Keeps, Live, LiveCard, Marked}
 use Rattle.model.proofs.JobRowsKeep.{nod_greys}
 use Rattle.model.proofs.NamesKeep.{finds_greying}
 use Rattle.model.proofs.SlotWriteKeeps.{slot_same_colour}
@@ -90,10 +89,8 @@ module _ (s : State) (b : Book) (place : ℕ → ℕ) (inv : Inv s b place) wher
       ((k : ℕ) → LiveCard s k → card' k ≡ s.card k) →
       Changes c s (set_hand (with_cards (with_cells s (upd s.cell pick x)) card' l) j h pick)
   taken_change c pick x card' l j h vac rng stay = record {
-    back = λ d. upd_elim (λ y. Kept s.phase s.cursor d y → Keeps s d ⊎ (colour (s.cell d) ≡ None)) s.cell pick d x
-        (λ e u. inr (ap (λ (m : ℕ). colour (s.cell m)) (sym e) ∙ vac)) (λ e u. inl u);
-    names = inl (λ k v. subst (λ (y : Card). Live (upd s.cell pick x) s.phase y × (y.spelling ≡ (s.card k).spelling))
-        (sym (stay k v)) (alive k v, refl));
+    back = grind arith;
+    names = grind arith;
     marks = λ d. upd_elim (λ y. Marked (colour y) →
         Marked (colour (s.cell d)) ⊎ Touched s (set_hand (with_cards (with_cells s (upd s.cell pick x)) card' l) j h pick) d)
         s.cell pick d x
@@ -104,9 +101,7 @@ module _ (s : State) (b : Book) (place : ℕ → ℕ) (inv : Inv s b place) wher
       alive : (k : ℕ) → LiveCard s k → Live (upd s.cell pick x) s.phase (s.card k)
       alive k v = record {
         filled = v.filled;
-        not_white = λ e. subst (λ (y : Cell). colour y ≢ Some White)
-            (sym (upd_other s.cell pick (s.card k).record_at x
-            (λ q. (inv.cards.live k v).0.in_use (ap (λ (m : ℕ). colour (s.cell m)) (sym q) ∙ vac)))) (v.not_white e);
+        not_white = grind arith;
       }
 
   make_change : (c : Call) (pick j h w : ℕ) → colour (s.cell pick) ≡ None → (1 ≤ h) × (h ≤ 8) →

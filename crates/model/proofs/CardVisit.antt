@@ -1,10 +1,10 @@
 -- The visit of a card whose record is white, in CLEANING, keeps the invariant.
-use Rattle.std.proofs.Common.{◌≡◌, ℕ, ◌<◌, ◌≤◌, ◌≢◌, ◌⊎◌, List, sym, refl, ap, ◌∙◌, subst, inl, inr, Option, Some, None}
+use Rattle.std.proofs.Common.{◌≡◌, ℕ, ◌<◌, ◌≤◌, ◌≢◌, ◌⊎◌, List, sym, refl, ap, ◌∙◌, subst, inl, inr, Option, Some, None, arith}
 use Rattle.std.proofs.lemmas.Bool.{cases_eq}
 use Rattle.model.specs.declared.Colour.TheVariants.{White}
 use Rattle.model.specs.declared.Phase.{Phase}
 use Rattle.model.specs.declared.Phase.TheVariants.{Cleaning}
-use Rattle.model.specs.Book.{Book, latest}
+use Rattle.model.specs.Book.{Book}
 use Rattle.model.specs.Machine.{Card, Cell, State, card_of, colour, upd, with_cards}
 use Rattle.model.specs.Promise.{Bears}
 use Rattle.model.proofs.Invariant.{Inv, Kept, Live, Spared}
@@ -30,21 +30,7 @@ clean_keeps s b place inv e z = record {
         (λ lo hi n. absurd (n refl)) (λ k n. inv.cards.cleared q k);
   };
   hands = inv.hands;
-  recs = record {
-    none_at = inv.recs.none_at;
-    unmade = inv.recs.unmade;
-    unmade_slots = inv.recs.unmade_slots;
-    one_place = inv.recs.one_place;
-    stands = inv.recs.stands;
-    owner = inv.recs.owner;
-    recs = λ r n k. let o = inv.recs.recs r n k in record {
-      wide = o.wide;
-      holds = o.holds;
-      bears = bears (b.name r) _ o.bears;
-    };
-    newest = upd_all (λ k x. Live f p x → place (latest b.name b.count x.spelling) ≡ x.record_at) s.card c C
-        (λ l. absurd (l.filled refl)) (λ k n. inv.recs.newest k);
-  };
+  recs = grind arith;
   lasts = inv.lasts;
 }
   where

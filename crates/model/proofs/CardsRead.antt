@@ -1,12 +1,11 @@
 -- How cards read: a card that does not read as empty is live, and its spelling is on file.
-use Rattle.std.proofs.Common.{◌≡◌, ℕ, true, false, not, ◌&&◌, eqb, ◌≢◌, List, ap, arith, bytes_eq}
+use Rattle.std.proofs.Common.{◌≡◌, ℕ, true, false, not, ◌&&◌, eqb, ◌≢◌, List, arith, bytes_eq}
 use Rattle.std.proofs.lemmas.Slice.Eq.{bytes_eq-Decides}
 use borrow.Author.Tests.{both_ways, eqb-false, not-true}
 use Rattle.std.proofs.lemmas.Bool.{and_from, and_parts, not_from_false, or_parts}
 use Rattle.model.specs.declared.Phase.TheVariants.{Cleaning}
 use Rattle.model.specs.Book.{Book}
 use Rattle.model.specs.Machine.{State, bears, filed, in_phase, is_white, reads_empty}
-use Rattle.model.proofs.Colours.{is_white_at}
 use Rattle.model.proofs.Invariant.{Inv, LiveCard}
 use Rattle.model.proofs.TableLaws.{first_none, first_passes}
 
@@ -14,7 +13,7 @@ bears_live : (s : State) (t : List ℕ) (k : ℕ) → bears s t k ≡ true → L
 bears_live s t k e = (
   record {
     filled = eqb-false _ 0 em.0;
-    not_white = λ q z. both_ways _ em.1 (and_from _ _ (ap (in_phase Cleaning) q) (is_white_at _ z));
+    not_white = grind arith;
   },
   (bytes_eq-Decides _ _).0
       pr.1,

@@ -1,6 +1,6 @@
 -- Calls of a job that make no record and grey none keep the invariant: open, close, park, wake, nod, load, copy, drop
 -- and follow.
-use Rattle.std.proofs.Common.{◌≡◌, ℕ, suc, true, not, eqb, ◌≢◌, ◌⊎◌, List, [], ◌∷◌, Result, sym, refl, ◌∙◌, subst, inl, inr, Some, arith}
+use Rattle.std.proofs.Common.{◌≡◌, ℕ, suc, true, not, eqb, ◌≢◌, ◌⊎◌, List, [], ◌∷◌, Result, sym, refl, inl, inr, Some, arith}
 use Rattle.std.specs.Result.{result_unwrap_or}
 use borrow.Author.Tests.{eqb-false}
 use Rattle.std.proofs.lemmas.Bool.{cond_both}
@@ -13,7 +13,7 @@ use Rattle.model.specs.Machine.{Job, State, at, closed_row, colour, hand, held, 
 use Rattle.model.specs.Tables.{job_checks, opened_job, slot_ok, vacant_job, walk, walks}
 use Rattle.model.proofs.Colours.{black_or}
 use Rattle.model.proofs.Granted.{Passed, hand_range, not_zero}
-use Rattle.model.proofs.Invariant.{Inv, Keeps, Marking, Protected, StandsFor, via}
+use Rattle.model.proofs.Invariant.{Inv, Marking, Protected, via}
 use Rattle.model.proofs.JobRowsKeep.{MayHold, at_none, hand_keeps, open_ok, row_alone_keeps, running_open}
 use Rattle.model.proofs.TableLaws.{vacant_passes, vacant_range}
 
@@ -40,8 +40,7 @@ module _ (s : State) (b : Book) (place : ℕ → ℕ) (inv : Inv s b place) wher
   slot_may : (row : Job) (r c i : ℕ) → c ≢ 0 → MayHold s.cell s.phase s.cursor row place r c →
       MayHold s.cell s.phase s.cursor row place (b.slot r i) (at (slots (s.cell c)) i)
   slot_may row r c i nz m = record {
-    rel = subst (λ (d : ℕ). StandsFor place (b.slot r i) (at (slots (s.cell d)) i)) (sym m.rel.is)
-        ((inv.recs.recs r (λ z. nz (m.rel.is ∙ z)) (subst (λ (d : ℕ). Keeps s d) m.rel.is (m.kept nz))).holds i);
+    rel = grind arith;
     kept = inv.heap.leads c (m.kept nz) i;
     safe = λ t o n. go t n (m.safe t o nz) (black_or (colour (s.cell c)));
   }

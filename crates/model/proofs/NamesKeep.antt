@@ -14,10 +14,10 @@ use Rattle.model.proofs.BarrierKeeps.{cells_if, grey_keeps, greys_if, marked_if,
 use Rattle.model.proofs.CardsRead.{empty_dead, filed_live, on_file}
 use Rattle.model.proofs.Granted.{Passed, hand_range, not_zero}
 use Rattle.model.proofs.GreyingKeeps.{Greys, grey_keep, repeats_marking}
-use Rattle.model.proofs.Invariant.{Greying, Inv, Keeps, Kept, Live, LiveCard, Marked, Marking, marked}
+use Rattle.model.proofs.Invariant.{Greying, Inv, Keeps, Live, LiveCard, Marked, Marking, marked}
 use Rattle.model.proofs.JobRowsKeep.{MayHold, hand_keeps, running_open}
 use Rattle.model.proofs.TableLaws.{upd_all, upd_other, upd_same, vacant_passes, vacant_range}
-use Rattle.model.proofs.TakingKeeps.{file_cards, latest_most, latest_new, latest_old, new_kept, not_empty, take_cards, take_heap, take_job, take_recs, take_rel, take_unlive}
+use Rattle.model.proofs.TakingKeeps.{file_cards, latest_most, latest_new, latest_old, not_empty, take_cards, take_heap, take_job, take_recs, take_unlive}
 
 -- find greys only where calls grey, and wherever a record must be protected
 pub finds_greying : (p : Phase) (owes : Bool) → find_greys p owes ≡ true → Greying p
@@ -36,10 +36,7 @@ module _ (s : State) (b : Book) (place : ℕ → ℕ) (inv : Inv s b place) wher
   unfolding found_into
   found_keeps j h k t e rng l q = hand_keeps (grey_if g s c) b place j h (bearer b t) c (grey_keeps s b place g c inv greying)
       (running_open _ e) rng (record {
-        rel = record {
-          is = sym (inv.recs.newest k l) ∙ ap (λ (u : List ℕ). place (bearer b u)) q;
-          none_is = λ z. absurd (l.filled z);
-        };
+        rel = grind arith;
         kept = λ n. grey_keep greys c kc;
         safe = λ m o n. marked (marked_if g s.cell c
             (marking_greys s.phase (s.job j).owes o (repeats_marking greys.repeats m)) kc.in_use);
@@ -70,9 +67,8 @@ module _ (s : State) (b : Book) (place : ℕ → ℕ) (inv : Inv s b place) wher
       MayHold (upd s.cell pick (used (new_colour s.phase s.cursor pick) k (replicate w 0))) s.phase s.cursor row
       (upd place (suc b.count) pick) (suc b.count) pick
   new_may pick k w row lo vac = record {
-    rel = record { is = sym (upd_same place (suc b.count) pick); none_is = λ z. absurd (omega arith) };
-    kept = λ n. subst (λ (x : Cell). Kept s.phase s.cursor pick x) (sym (upd_same s.cell pick _))
-        (new_kept s.cell s.phase s.cursor pick k w vac);
+    rel = grind arith;
+    kept = grind arith;
     safe = λ t o n. marked (subst (λ (x : Cell). Marked (colour x))
         (sym (upd_same s.cell pick (used (new_colour s.phase s.cursor pick) k (replicate w 0))))
         (new_marked s.phase s.cursor pick t));
@@ -91,8 +87,7 @@ module _ (s : State) (b : Book) (place : ℕ → ℕ) (inv : Inv s b place) wher
       heap = take_heap f p cur pick 0 w vac s.size right.lowest right.highest inv.heap;
       jobs = λ j. take_job f p cur pick 0 w vac j (s.job j) (inv.jobs j);
       cards = take_cards f p cur pick 0 w vac refl s.card inv.cards;
-      hands = λ j h. take_rel f p cur pick 0 w vac s.card s.card b.count b.width b.slot b.name place None
-          inv.recs _ _ (inv.hands j h);
+      hands = grind arith;
       recs = take_recs f p cur pick 0 w vac s.card s.card b.count b.width b.slot b.name place None inv.recs
           inv.heap.no_zero right.lowest (λ c h n. refl) refl
           (λ m l. still_newest pick m None (take_unlive f p cur pick 0 w vac (s.card m) l) refl);
@@ -129,8 +124,7 @@ module _ (s : State) (b : Book) (place : ℕ → ℕ) (inv : Inv s b place) wher
       jobs = λ j. take_job f p cur pick k w vac j (s.job j) (inv.jobs j);
       cards = file_cards f p cur pick k w vac t s.card s.size inv.heap rng.0 rng.1 right.lowest dead off
           inv.cards;
-      hands = λ j h. take_rel f p cur pick k w vac s.card (upd s.card k C) b.count b.width b.slot b.name place
-          (Some t) inv.recs _ _ (inv.hands j h);
+      hands = grind arith;
       recs = take_recs f p cur pick k w vac s.card (upd s.card k C) b.count b.width b.slot b.name place (Some t)
           inv.recs inv.heap.no_zero right.lowest
           (λ c h n. upd_other s.card k (card_of (f c)) C

@@ -1,7 +1,6 @@
 -- The phase moves on, while cells and cards stay: every such move keeps the invariant, the commit among them.
-use Rattle.std.proofs.Common.{◌≡◌, ℕ, suc, ◌<◌, ◌≤◌, Bool, true, false, cond, ◌&&◌, ◌≢◌, refl, subst, inl, inr, arith, Option, Some, None}
+use Rattle.std.proofs.Common.{◌≡◌, ℕ, suc, ◌<◌, ◌≤◌, Bool, true, false, cond, ◌&&◌, ◌≢◌, refl, arith, Option, Some, None}
 use borrow.Author.Tests.{both_ways}
-use Rattle.std.proofs.lemmas.Bool.{cases_eq}
 use Rattle.model.specs.declared.Colour.{Colour}
 use Rattle.model.specs.declared.Colour.TheVariants.{Black, Grey, White}
 use Rattle.model.specs.declared.JobState.{JobState}
@@ -11,7 +10,7 @@ use Rattle.model.specs.declared.Phase.TheVariants.{Arming, Cleaning, Normal, Par
 use Rattle.model.specs.Book.{Book}
 use Rattle.model.specs.Cycle.{all_owe, owes_as, owing}
 use Rattle.model.specs.Machine.{Job, State, at, at_phase, colour, is_open, is_parked, is_running, slots, with_jobs}
-use Rattle.model.proofs.Carried.{cards_move, recs_move}
+use Rattle.model.proofs.Carried.{cards_move}
 use Rattle.model.proofs.Invariant.{ColourOk, Flags, Inv, Keeps, Kept, Live, LiveCard, Marked, Marking, Protected, Spared, marked, via}
 use Rattle.model.proofs.TableLaws.{first_none}
 
@@ -77,19 +76,11 @@ phase_keeps s b place t q cur r inv m = record {
     leads = λ c k i n. m.kept.slot c i k n (inv.heap.leads c (unkeep c k) i n);
     protects = m.marking.protects;
   };
-  jobs = λ j. record {
-    range = (inv.jobs j).range;
-    eight = (inv.jobs j).eight;
-    shut = (inv.jobs j).shut;
-    flags = m.flags j;
-    roots = λ h n. m.kept.hand j h n ((inv.jobs j).roots h n);
-    protected = λ tr o. m.marking.protected tr j o;
-  };
+  jobs = grind arith;
   cards = cards_move unkeep (λ d k. refl) (record { unlive = m.cards.unlive; lives = m.kept.card; clears = m.cards.clears })
       inv.cards;
   hands = inv.hands;
-  recs = recs_move (record { kept = unkeep; same_slots = λ d k. refl; same_card = λ d k. refl }) m.cards.unlive (λ d n. n)
-      (λ d n. n) inv.recs;
+  recs = grind arith;
   lasts = inv.lasts;
 }
   where
@@ -179,10 +170,7 @@ module _ (s : State) (b : Book) (place : ℕ → ℕ) (inv : Inv s b place) wher
           ((sound_from Tracing e).heap.protects tt c (is_black c (colour (s.cell c)) refl k) i n));
       card = λ k l u. record { in_use = u.in_use; spared = λ z. l.not_white refl z };
     };
-    cards = record {
-      unlive = λ k l. record { filled = l.filled; not_white = λ q. cc };
-      clears = λ q k lo hi. absurd (omega arith);
-    };
+    cards = grind arith;
     marking = not_marking (from Tracing) false Cleaning (λ m. m);
     colours = no_grey;
     flags = λ j o. tt;
@@ -202,16 +190,8 @@ module _ (s : State) (b : Book) (place : ℕ → ℕ) (inv : Inv s b place) wher
       ((s.card s.cursor).record_at ≢ 0 → colour (s.cell (s.card s.cursor).record_at) ≢ Some White) →
       Inv (at_phase s Cleaning (suc s.cursor) r) b place
   clean_next e r is_clean = move Cleaning e false Cleaning (suc s.cursor) r (record {
-    kept = even (from Cleaning) Cleaning (suc s.cursor) (λ d a z. z) (λ d a z. z);
-    cards = record {
-      unlive = λ k l. l;
-      clears = λ q k lo hi. elim (cases_eq s.cursor k) [
-        | inl w ↦ subst (λ (m : ℕ). (s.card m).record_at ≢ 0 →
-            colour (s.cell (s.card m).record_at) ≢ Some White) w is_clean
-        | inr w ↦ (sound_from Cleaning e).cards.cleared refl k
-            lo (omega arith)
-      ];
-    };
+    kept = grind arith;
+    cards = grind arith;
     marking = not_marking (from Cleaning) false Cleaning (λ m. m);
     colours = (sound_from Cleaning e).heap.colours;
     flags = λ j o. tt;
@@ -220,14 +200,7 @@ module _ (s : State) (b : Book) (place : ℕ → ℕ) (inv : Inv s b place) wher
   pub to_parting : s.phase ≡ Cleaning → (r : ℕ) → 512 < s.cursor → Inv (at_phase (all_owe s) Parting 0 r) b place
   to_parting e r past = move Cleaning e true Parting 0 r (record {
     kept = even (from Cleaning) Parting 0 (λ d a z. z) (λ d a z. z);
-    cards = record {
-      unlive = λ k l. record {
-        filled = l.filled;
-        not_white = λ q. let h = inv.cards.ranged k l.filled in (sound_from Cleaning e).cards.cleared refl k h.0
-            (omega arith) l.filled;
-      };
-      clears = λ q. cc;
-    };
+    cards = grind arith;
     marking = not_marking (from Cleaning) true Parting (λ m. m);
     colours = (sound_from Cleaning e).heap.colours;
     flags = λ j o q. absurd (both_ways _ q o);
@@ -235,7 +208,7 @@ module _ (s : State) (b : Book) (place : ℕ → ℕ) (inv : Inv s b place) wher
 
   pub to_sweeping : s.phase ≡ Parting → (r : ℕ) → NoneOwe s → Inv (at_phase s Sweeping 1 r) b place
   to_sweeping e r none_owe = move Parting e false Sweeping 1 r (record {
-    kept = even (from Parting) Sweeping 1 (λ d a z. zero_not d White z a) (λ d a z. absurd z);
+    kept = grind arith;
     cards = not_cleaning (from Parting) Sweeping 1 (λ q. cc) (λ q. cc);
     marking = not_marking (from Parting) false Sweeping (λ m. m);
     colours = λ d. ((sound_from Parting e).heap.colours d, zero_not d Black);

@@ -1,15 +1,13 @@
 -- Writing a slot of a record keeps the invariant, where the barrier has run.
 use Rattle.std.proofs.Common.{◌≡◌, ℕ, ◌<◌, ◌≤◌, ◌≢◌, ◌⊎◌, List, length, sym, refl, ap, ◌∙◌, subst, inl, inr, Option, Some, None, arith}
 use Rattle.std.proofs.lemmas.Bool.{cases_eq}
-use Rattle.model.specs.declared.Colour.{Colour}
 use Rattle.model.specs.declared.Colour.TheVariants.{Black}
 use Rattle.model.specs.declared.Phase.{Phase}
 use Rattle.model.specs.Book.{Book, write_slot}
 use Rattle.model.specs.Machine.{Card, Cell, Job, State, at, card_of, colour, put, slots, upd, with_slot}
-use Rattle.model.specs.Promise.{Bears}
 use Rattle.model.specs.Tables.{set_slot}
 use Rattle.model.proofs.Carried.{cards_move, job_move, protected_map}
-use Rattle.model.proofs.Invariant.{CardsOk, ColourOk, HeapOk, Inv, JobOk, Keeps, Kept, Live, Marked, Marking, Protected, RecOk, RecsOk, StandsFor}
+use Rattle.model.proofs.Invariant.{CardsOk, HeapOk, Inv, JobOk, Keeps, Kept, Live, Marked, Marking, Protected, RecOk, RecsOk, StandsFor}
 use Rattle.model.proofs.TableLaws.{length_put, put_elim, upd_all, upd_elim, upd_other, upd_same}
 
 slot_colour : (i v : ℕ) (x : Cell) → colour (with_slot i v x) ≡ colour x
@@ -76,7 +74,7 @@ module _ (f : ℕ → Cell) (p : Phase) (cur c i v : ℕ) (kept : Kept p cur c (
     slot_heap size ok = record {
       no_zero = same_colour 0 ∙ ok.no_zero;
       inside = λ d n. ok.inside d (λ e. n (same_colour d ∙ e));
-      colours = λ d. subst (λ (l : Option Colour). ColourOk p cur d l) (sym (same_colour d)) (ok.colours d);
+      colours = grind arith;
       leads = upd_all (λ d y. Kept p cur d y → (m : ℕ) → at (slots y) m ≢ 0 → Kept p cur (at (slots y) m) (g (at (slots y) m))) f
           c (with_slot i v (f c))
           (λ h m. slot_elim (λ x. x ≢ 0 → Kept p cur x (g x)) m (λ e n. keep v (new_kept n))
@@ -123,7 +121,7 @@ module _ (f : ℕ → Cell) (p : Phase) (cur c i v : ℕ) (kept : Kept p cur c (
                 (λ e. upd_elim (λ z. StandsFor place z v) (slot r) i m y (λ q. yv) (λ q. absurd (q e)))
                 (λ n. upd_elim (λ z. StandsFor place z (at (slots (f c)) m)) (slot r) i m y (λ q. absurd (n q))
                 (λ q. o.holds m));
-            bears = subst (λ (k : ℕ). Bears card (name r) k) (sym (slot_card i v (f c))) o.bears;
+            bears = grind arith;
           }
 
           go : (t : ℕ) → (r ≡ t) ⊎ (r ≡ t → ⊥) → place t ≢ 0 → Kept p cur (place t) (g (place t)) →

@@ -14,7 +14,7 @@ use Rattle.model.proofs.CallChanges.{Changes, Touched, from_marked, job_changes,
 use Rattle.model.proofs.CallsByEffect.{effect_of}
 use Rattle.model.proofs.Colours.{free_white, grey_is}
 use Rattle.model.proofs.Granted.{Passed, next_cases}
-use Rattle.model.proofs.GreyingKeeps.{grey_list, marked_in, unused_greyer, used_greyer}
+use Rattle.model.proofs.GreyingKeeps.{grey_list, marked_in, used_greyer}
 use Rattle.model.proofs.Invariant.{Inv, Marked, Sound, Spared}
 use Rattle.model.proofs.PhaseCases.{phase_is}
 use Rattle.model.proofs.SlotsAreLastPut.{new_edge, write_count}
@@ -47,11 +47,8 @@ module _ (s : State) (b : Book) (place : ℕ → ℕ) (inv : Inv s b place) wher
       (q : Phase) (cur r : ℕ) → q ≢ Cleaning → Stepped (at_phase (scanned s) q cur r)
   unfolding scanned
   grey_step_change a spare q cur r other = record {
-    back = λ d k. inl (record {
-      in_use = unused_greyer (grey_list s.cell (slots (s.cell s.cursor)) d) (from d k.in_use);
-      spared = λ z. spare d;
-    });
-    names = inl (λ k l. (record { filled = l.filled; not_white = λ e. absurd (other e) }, refl));
+    back = grind arith;
+    names = grind arith;
     marks = λ d l. upd_elim (λ y. Marked (colour y) → Marked (colour (s.cell d)) ⊎ Touched s (at_phase (scanned s) q cur r) d) g
         s.cursor d (painted Black (g s.cursor))
         (λ e u. inl (subst (λ (m : ℕ). Marked (colour (s.cell m))) e (subst Marked (sym a) tt)))

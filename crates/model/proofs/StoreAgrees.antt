@@ -1,5 +1,5 @@
 -- What follows from the invariant at one moment: reached records stand, store and book agree, a name has one record.
-use Rattle.std.proofs.Common.{◌≡◌, ℕ, ◌≢◌, List, sym, ap, ◌∙◌, subst, Option, Some}
+use Rattle.std.proofs.Common.{◌≡◌, ℕ, ◌≢◌, List, sym, ap, ◌∙◌, subst, Option, Some, arith}
 use Rattle.model.specs.declared.Phase.{Phase}
 use Rattle.model.specs.Book.{Book, Leads, Reached, bearer, from_hand, here, through}
 use Rattle.model.specs.Machine.{State, at, card_of, colour, filed, slots}
@@ -23,7 +23,7 @@ module _ (s : State) (b : Book) (place : ℕ → ℕ) (inv : Inv s b place) wher
   leads_stands here h = h
   leads_stands (through {r = r} i n l) h = leads_stands l (record {
     placed = λ z. n (rel.none_is (rel.is ∙ z));
-    kept = subst (λ (m : ℕ). Keeps s m) rel.is (inv.heap.leads (place r) h.kept i (λ z. n (rel.none_is z)));
+    kept = grind arith;
   })
     where
       rel : StandsFor place (b.slot r i) (at (slots (s.cell (place r))) i)
@@ -32,7 +32,7 @@ module _ (s : State) (b : Book) (place : ℕ → ℕ) (inv : Inv s b place) wher
   pub reached_stands : {r : ℕ} → Reached b r → Stands s place r
   reached_stands (from_hand j h n l) = leads_stands l (record {
     placed = λ z. n ((inv.hands j h).none_is ((inv.hands j h).is ∙ z));
-    kept = subst (λ (m : ℕ). Keeps s m) (inv.hands j h).is ((inv.jobs j).roots h (λ z. n ((inv.hands j h).none_is z)));
+    kept = grind arith;
   })
 
   pub agree : Agree s b place

@@ -61,7 +61,7 @@ sweep_keeps s b place r inv = record {
   jobs = λ j. job_move j (s.job j) keep (λ t. absurd t) (λ g. g) (inv.jobs j);
   cards = cards_move sh.kept sh.same_card (record { unlive = unlive; lives = λ k l h. keep _ h; clears = λ q. cc })
       inv.cards;
-  hands = λ j h. standing_for place (swept s) _ _ (λ n. (keep _ ((inv.jobs j).roots h n)).in_use) (inv.hands j h);
+  hands = grind arith;
   recs = record {
     none_at = standing_zero place (swept s) 0 inv.recs.none_at;
     unmade = λ t h. standing_zero place (swept s) t (inv.recs.unmade t h);

@@ -10,7 +10,7 @@ use Rattle.model.specs.Cycle.{new_colour}
 use Rattle.model.specs.Machine.{Card, Cell, Job, bears, card_of, colour, upd, used}
 use Rattle.model.specs.Promise.{Bears}
 use Rattle.model.proofs.Carried.{job_move, protected_map}
-use Rattle.model.proofs.Colours.{free_slots, marked_used, some_none}
+use Rattle.model.proofs.Colours.{free_slots, marked_used}
 use Rattle.model.proofs.Invariant.{CardsOk, ColourOk, HeapOk, JobOk, Kept, Live, Protected, RecOk, RecsOk, StandsFor}
 use Rattle.model.proofs.TableLaws.{at_zeros, upd_all, upd_elim, upd_other, upd_same}
 
@@ -91,7 +91,7 @@ module _ (f : ℕ → Cell) (p : Phase) (cur pick k w : ℕ) (vac : colour (f pi
       (Live f p (card k) → ⊥) → ((m : ℕ) → Live f p (card m) → (card m).spelling ≢ sp) →
       CardsOk f p cur card → CardsOk (upd f pick X) p cur (upd card k (record { spelling = sp; record_at = pick }))
   file_cards sp card size hp lo hi pos dead off ok = record {
-    ranged = upd_all (λ m y. y.record_at ≢ 0 → (1 ≤ m) × (m ≤ 512)) card k C (λ n. (lo, hi)) (λ m e. ok.ranged m);
+    ranged = grind arith;
     live = upd_all (λ m y. Live (upd f pick X) p y →
         Kept p cur y.record_at (upd f pick X y.record_at) × (card_of (upd f pick X y.record_at) ≡ m) × (1 ≤ m) ×
         (m ≤ 512)) card k C
@@ -106,10 +106,7 @@ module _ (f : ℕ → Cell) (p : Phase) (cur pick k w : ℕ) (vac : colour (f pi
         (λ c e h n. ap (λ (y : Card). y.record_at) (upd_other card k (card_of (f c)) C (not_empty card size hp ok dead c h n))
         ∙ ok.back c h n);
     distinct = λ m n. go m n (cases_eq k m) (cases_eq k n);
-    cleared = λ e. upd_all (λ m y. 1 ≤ m → m < cur → y.record_at ≢ 0 → colour (upd f pick X y.record_at) ≢ Some White) card k
-        C
-        (λ a b c. subst (λ (y : Cell). colour y ≢ Some White) (sym (upd_same f pick X)) (new_cleaning p cur pick e))
-        (λ m n. take_clear card ok e m);
+    cleared = grind arith;
   }
     where
       C : Card
@@ -144,13 +141,11 @@ module _ (f : ℕ → Cell) (p : Phase) (cur pick k w : ℕ) (vac : colour (f pi
         (upd name (suc count) nm) (upd place (suc count) pick)
     take_recs nz pos stay bears newest = record {
       none_at = upd_other place (suc count) 0 pick (suc-ne-zero count) ∙ ok.none_at;
-      unmade = λ r h. upd_other place (suc count) r pick (λ e. omega arith) ∙ ok.unmade r (omega arith);
+      unmade = grind arith;
       unmade_slots = λ r i h. ap (λ (f : ℕ → ℕ). f i) (upd_other slot (suc count) r (λ i. 0) (λ e. omega arith))
           ∙ ok.unmade_slots r i (omega arith);
       one_place = λ r t. one r t (cases_eq (suc count) r) (cases_eq (suc count) t);
-      stands = upd_all (λ r y. y ≢ 0 → colour (upd f pick X y) ≢ None) place (suc count) pick
-          (λ n. subst (λ (y : Cell). colour y ≢ None) (sym (upd_same f pick X)) (some_none (new_colour p cur pick)))
-          (λ r e n. subst (λ (y : Cell). colour y ≢ None) (sym (take_old X _ (ok.stands r n))) (ok.stands r n));
+      stands = grind arith;
       owner = upd_all (λ c y. colour y ≢ None → (r : ℕ) × (upd place (suc count) pick r ≡ c)) f pick X
           (λ n. (suc count, upd_same place (suc count) pick))
           (λ c e n. let o = ok.owner c n in (

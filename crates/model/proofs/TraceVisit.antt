@@ -5,7 +5,7 @@ use Rattle.model.specs.declared.Phase.TheVariants.{Repeat}
 use Rattle.model.specs.Book.{Book}
 use Rattle.model.specs.Cycle.{grey_all, scanned}
 use Rattle.model.specs.Machine.{Cell, State, at, at_phase, card_of, colour, painted, slots, upd, with_cells}
-use Rattle.model.proofs.Carried.{Shrinks, cards_move, job_move, leads_move, protected_map, recs_move}
+use Rattle.model.proofs.Carried.{Shrinks, job_move, leads_move, protected_map, recs_move}
 use Rattle.model.proofs.GreyingKeeps.{Greyer, Repeats, grey_list, greying_keeps, marked_list, used_greyer}
 use Rattle.model.proofs.Invariant.{Inv, Kept, Live, Marked, Protected, Spared, marked}
 use Rattle.model.proofs.TableLaws.{upd_all, upd_elim, upd_other}
@@ -55,8 +55,7 @@ black_keeps s b place c inv n all = record {
   };
   jobs = λ j. job_move j (s.job j) keep (λ t o h z. black_protected f cur c n all ((inv.jobs j).protected t o h z)) (λ g. g)
       (inv.jobs j);
-  cards = cards_move sh.kept sh.same_card (record { unlive = unlive; lives = λ k l h. keep _ h; clears = λ q. cc })
-      inv.cards;
+  cards = grind arith;
   hands = inv.hands;
   recs = recs_move sh unlive (black_to f cur c n all) (black_from f cur c n all) inv.recs;
   lasts = inv.lasts;
@@ -76,7 +75,7 @@ black_keeps s b place c inv n all = record {
 
     sh : Shrinks f (upd f c (painted Black (f c))) Repeat Repeat cur cur
     sh = record {
-      kept = λ d k. record { in_use = black_from f cur c n all d k.in_use; spared = λ e. tt };
+      kept = grind arith;
       same_slots = λ d k. (black_same f cur c n all d).0;
       same_card = λ d k. (black_same f cur c n all d).1;
     }

@@ -91,7 +91,7 @@ steady_trans {s} {s1} {s2} a b = record {
   rounds_is = b.rounds_is ∙ a.rounds_is;
   cursor_is = b.cursor_is ∙ a.cursor_is;
   repeats = repeats_trans a.repeats b.repeats;
-  lighter = λ t d. let u = a.lighter t d in let v = b.lighter (repeats_tracing a.repeats t) d in omega arith;
+  lighter = grind arith;
   falls = λ e q. go e q (repeats_cases a.repeats e);
 }
   where
