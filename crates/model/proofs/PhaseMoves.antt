@@ -69,13 +69,7 @@ not_marking s t q n = grind arith
 phase_keeps : (s : State) (b : Book) (place : ℕ → ℕ) (t : Bool) (q : Phase) (cur r : ℕ) → Inv s b place → PhaseMove s t q cur →
     Inv (moved s t q cur r) b place
 phase_keeps s b place t q cur r inv m = record {
-  heap = record {
-    no_zero = inv.heap.no_zero;
-    inside = inv.heap.inside;
-    colours = m.colours;
-    leads = λ c k i n. m.kept.slot c i k n (inv.heap.leads c (unkeep c k) i n);
-    protects = m.marking.protects;
-  };
+  heap = grind (arith, unkeep);
   jobs = grind arith;
   cards = cards_move unkeep (λ d k. refl) (record { unlive = m.cards.unlive; lives = m.kept.card; clears = m.cards.clears })
       inv.cards;
@@ -161,15 +155,7 @@ module _ (s : State) (b : Book) (place : ℕ → ℕ) (inv : Inv s b place) wher
   pub commit_keeps : s.phase ≡ Tracing → (r : ℕ) → ((d : ℕ) → colour (s.cell d) ≢ Some Grey) →
       Inv (at_phase s Cleaning 1 r) b place
   commit_keeps e r no_grey = move Tracing e false Cleaning 1 r (record {
-    kept = record {
-      unspare = λ d a z. tt;
-      hand = λ j h n k. black_kept _ (protected_black no_grey
-          (all_protected (from Tracing) b place (sound_from Tracing e) tt (λ i o. (((sound_from Tracing e).jobs i).flags o).1) j h
-          n));
-      slot = λ c i k n u. black_kept _ (protected_black no_grey
-          ((sound_from Tracing e).heap.protects tt c (is_black c (colour (s.cell c)) refl k) i n));
-      card = λ k l u. record { in_use = u.in_use; spared = λ z. l.not_white refl z };
-    };
+    kept = grind (arith, protected_black, all_protected, sound_from);
     cards = grind arith;
     marking = not_marking (from Tracing) false Cleaning (λ m. m);
     colours = no_grey;

@@ -116,7 +116,7 @@ module _ (f : ℕ → Cell) (p : Phase) (cur c i v : ℕ) (kept : Kept p cur c (
           this : RecOk card place (width r) (slot r) (name r) (f c) →
               RecOk card place (width r) (upd (slot r) i y) (name r) (with_slot i v (f c))
           this o = record {
-            wide = ap length (slot_slots i v (f c) kept.in_use) ∙ length_put (slots (f c)) i v ∙ o.wide;
+            wide = grind (arith, slot_slots, length_put);
             holds = λ m. slot_elim (λ x. StandsFor place (upd (slot r) i y m) x) m
                 (λ e. upd_elim (λ z. StandsFor place z v) (slot r) i m y (λ q. yv) (λ q. absurd (q e)))
                 (λ n. upd_elim (λ z. StandsFor place z (at (slots (f c)) m)) (slot r) i m y (λ q. absurd (n q))

@@ -92,19 +92,8 @@ module _ (f : ℕ → Cell) (p : Phase) (cur pick k w : ℕ) (vac : colour (f pi
       CardsOk f p cur card → CardsOk (upd f pick X) p cur (upd card k (record { spelling = sp; record_at = pick }))
   file_cards sp card size hp lo hi pos dead off ok = record {
     ranged = grind arith;
-    live = upd_all (λ m y. Live (upd f pick X) p y →
-        Kept p cur y.record_at (upd f pick X y.record_at) × (card_of (upd f pick X y.record_at) ≡ m) × (1 ≤ m) ×
-        (m ≤ 512)) card k C
-        (λ l. (
-          subst (λ (y : Cell). Kept p cur pick y) (sym (upd_same f pick X)) new_kept,
-          ap card_of (upd_same f pick X),
-          lo,
-          hi,
-        )) (λ m e. take_live card ok m);
-    back = upd_all (λ c y. Kept p cur c y → card_of y ≢ 0 → (upd card k C (card_of y)).record_at ≡ c) f pick X
-        (λ h n. ap (λ (y : Card). y.record_at) (upd_same card k C))
-        (λ c e h n. ap (λ (y : Card). y.record_at) (upd_other card k (card_of (f c)) C (not_empty card size hp ok dead c h n))
-        ∙ ok.back c h n);
+    live = grind (arith, upd_all, upd_same, new_kept, take_live);
+    back = grind (arith, upd_all, upd_same, upd_other, not_empty);
     distinct = λ m n. go m n (cases_eq k m) (cases_eq k n);
     cleared = grind arith;
   }
@@ -179,10 +168,7 @@ module _ (f : ℕ → Cell) (p : Phase) (cur pick k w : ℕ) (vac : colour (f pi
         newest_rec : RecOk card' (upd place (suc count) pick) w (λ i. 0) nm X
         newest_rec = record {
           wide = length-replicate w 0;
-          holds = λ i. record {
-            is = at_zeros w i ∙ sym (upd_other place (suc count) 0 pick (suc-ne-zero count) ∙ ok.none_at);
-            none_is = λ e. refl;
-          };
+          holds = grind (arith, at_zeros, upd_other, suc-ne-zero);
           bears = bears;
         }
 

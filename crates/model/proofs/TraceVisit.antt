@@ -53,8 +53,7 @@ black_keeps s b place c inv n all = record {
         (sym (black_slots (f c))) (λ i z. marked (black_marked f cur c n all _ (all i z))))
         (λ d e h i z. black_protected f cur c n all (inv.heap.protects tt d h i z));
   };
-  jobs = λ j. job_move j (s.job j) keep (λ t o h z. black_protected f cur c n all ((inv.jobs j).protected t o h z)) (λ g. g)
-      (inv.jobs j);
+  jobs = grind (arith, job_move, keep, black_protected);
   cards = grind arith;
   hands = inv.hands;
   recs = recs_move sh unlive (black_to f cur c n all) (black_from f cur c n all) inv.recs;

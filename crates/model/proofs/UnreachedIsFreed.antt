@@ -64,7 +64,7 @@ module _ (x : World) (c : Call) (pick : ℕ) (right : Picks x.state pick) (inv :
 
   next_untraced : Untraced x t → Untraced y t
   next_untraced un = record {
-    made = let a = next_count x c pick right inv in let b = un.made in omega arith;
+    made = grind (arith, next_count);
     no_path = λ d l r e ld. by_age d l r e ld (cases_lt x.book.count r);
   }
     where
