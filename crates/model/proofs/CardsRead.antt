@@ -1,8 +1,8 @@
 -- How cards read: a card that does not read as empty is live, and its spelling is on file.
 use Rattle.std.proofs.Common.{◌≡◌, ℕ, true, false, not, ◌&&◌, eqb, ◌≢◌, List, arith, bytes_eq}
 use Rattle.std.proofs.lemmas.Slice.Eq.{bytes_eq-Decides}
-use borrow.Author.Tests.{both_ways, eqb-false, not-true}
-use Rattle.std.proofs.lemmas.Bool.{and_from, and_parts, not_from_false, or_parts}
+use borrow.Author.Tests.{both_ways, eqb-false}
+use Rattle.std.proofs.lemmas.Bool.{and_from, and_parts, not_from_false}
 use Rattle.model.specs.declared.Phase.TheVariants.{Cleaning}
 use Rattle.model.specs.Book.{Book}
 use Rattle.model.specs.Machine.{State, bears, filed, in_phase, is_white, reads_empty}
@@ -24,7 +24,7 @@ bears_live s t k e = (
 
     em : (eqb (s.card k).record_at 0 ≡ false) ×
         ((in_phase Cleaning s.phase && is_white (s.cell (s.card k).record_at)) ≡ false)
-    em = or_parts _ _ (not-true _ pr.0)
+    em = grind arith
 
 -- the card that has a spelling on file
 pub filed_live : (s : State) (t : List ℕ) → filed s t ≢ 0 → LiveCard s (filed s t) × ((s.card (filed s t)).spelling ≡ t)

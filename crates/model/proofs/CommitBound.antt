@@ -18,7 +18,7 @@ use Rattle.model.proofs.GreyingKeeps.{Greyer, Repeats, grey_list, used_greyer}
 use Rattle.model.proofs.Invariant.{Sound}
 use Rattle.model.proofs.RunsKeep.{run_sound}
 use Rattle.model.proofs.StepsKeep.{commit_end, phase_scanned, repeat_end, trace_on_cases}
-use Rattle.model.proofs.TableLaws.{upd_elim, upd_same}
+use Rattle.model.proofs.TableLaws.{upd_elim}
 use Rattle.model.proofs.TraceVisit.{black_colour}
 use Rattle.model.proofs.Weight.{Lighter, Steady, greyer_weight, steady_job, steady_nod, steady_rows, total, total_le, total_lt, total_most, weight}
 
@@ -73,8 +73,7 @@ module _ (s : State) (t : ℕ) where
 
       less : weight (colour (upd g s.cursor (painted Black (g s.cursor)) s.cursor)) < weight
           (colour (s.cell s.cursor))
-      less = let u = ap (λ (x : Cell). weight (colour x)) (upd_same g s.cursor (painted Black (g s.cursor))) in let v =
-          ap weight is_black in let w = ap weight a in omega arith
+      less = grind arith
 
   scanned_bounds : colour (s.cell s.cursor) ≡ Some Grey → 1 ≤ s.cursor → s.cursor ≤ s.size →
       t + s.size + 1 ≡ s.rounds * s.size + s.cursor → total s.cell s.size + s.rounds ≤ 2 * s.size + 1 →

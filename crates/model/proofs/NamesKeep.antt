@@ -49,7 +49,7 @@ module _ (s : State) (b : Book) (place : ℕ → ℕ) (inv : Inv s b place) wher
       g = find_greys s.phase (s.job j).owes
 
       greying : g ≡ true → colour (s.cell c) ≡ Some White → Greying s.phase
-      greying e z = finds_greying s.phase (s.job j).owes e
+      greying e z = grind arith
 
       greys : Greys s.cell (cells_if g s.cell c) s.phase (phase_if g (s.cell c) s.phase) s.cursor
       greys = greys_if g s.cell s.phase s.cursor c greying

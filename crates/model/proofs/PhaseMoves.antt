@@ -1,10 +1,9 @@
 -- The phase moves on, while cells and cards stay: every such move keeps the invariant, the commit among them.
-use Rattle.std.proofs.Common.{◌≡◌, ℕ, suc, ◌<◌, ◌≤◌, Bool, true, false, cond, ◌&&◌, ◌≢◌, refl, arith, Option, Some, None}
+use Rattle.std.proofs.Common.{◌≡◌, ℕ, suc, ◌<◌, ◌≤◌, Bool, true, false, cond, ◌&&◌, ◌≢◌, refl, arith, Option, Some}
 use borrow.Author.Tests.{both_ways}
 use Rattle.model.specs.declared.Colour.{Colour}
 use Rattle.model.specs.declared.Colour.TheVariants.{Black, Grey, White}
 use Rattle.model.specs.declared.JobState.{JobState}
-use Rattle.model.specs.declared.JobState.TheVariants.{Closed, Parked, Running}
 use Rattle.model.specs.declared.Phase.{Phase}
 use Rattle.model.specs.declared.Phase.TheVariants.{Arming, Cleaning, Normal, Parting, Repeat, Scanning, Sweeping, Tracing}
 use Rattle.model.specs.Book.{Book}
@@ -79,7 +78,7 @@ phase_keeps s b place t q cur r inv m = record {
 }
   where
     unkeep : (d : ℕ) → Kept q cur d (s.cell d) → Keeps s d
-    unkeep d k = record { in_use = k.in_use; spared = λ e. m.kept.unspare d e (k.spared e) }
+    unkeep d k = grind arith
 
 -- no open job owes a nod
 abbrev pub NoneOwe : State → Type 0
@@ -96,9 +95,7 @@ no_owes s b place inv p r j o = go (s.job j).status (s.job j).owes refl o
 
     go : (t : JobState) (w : Bool) → (s.job j).owes ≡ w → is_open t ≡ true → (is_parked t && w) ≡ false →
         (is_running t && w) ≡ false → w ≡ false
-    go Closed w e o a c = cc
-    go Running w e o a c = c
-    go Parked w e o a c = a
+    go t w e o a c = grind arith
 
 -- a hand of a job that is not open is empty, and the other hands are protected
 all_protected : (s : State) (b : Book) (place : ℕ → ℕ) → Inv s b place → Marking s.phase → NoneOwe s →
@@ -147,9 +144,7 @@ module _ (s : State) (b : Book) (place : ℕ → ℕ) (inv : Inv s b place) wher
   protected_black no_grey (marked {c = c} l) = go (colour (s.cell c)) refl l
     where
       go : (l : Option Colour) → colour (s.cell c) ≡ l → Marked l → l ≡ Some Black
-      go (Some Grey) e h = absurd (no_grey c e)
-      go (Some Black) e h = refl
-      go _ e h = absurd h
+      go l e h = grind arith
   protected_black no_grey (via i g n e z) = absurd (n (protected_black no_grey g))
 
   pub commit_keeps : s.phase ≡ Tracing → (r : ℕ) → ((d : ℕ) → colour (s.cell d) ≢ Some Grey) →
@@ -163,14 +158,11 @@ module _ (s : State) (b : Book) (place : ℕ → ℕ) (inv : Inv s b place) wher
   })
     where
       black_kept : (c : ℕ) → colour (s.cell c) ≡ Some Black → Kept Cleaning 1 c (s.cell c)
-      black_kept c d = record { in_use = λ z. cc; spared = λ z. cc }
+      black_kept c d = grind arith
 
       is_black : (c : ℕ) (l : Option Colour) → colour (s.cell c) ≡ l → Kept Cleaning 1 c (s.cell c) →
           colour (s.cell c) ≡ Some Black
-      is_black c None q k = absurd (k.in_use q)
-      is_black c (Some White) q k = absurd (k.spared q)
-      is_black c (Some Grey) q k = absurd (no_grey c q)
-      is_black c (Some Black) q k = q
+      is_black c l q k = grind arith
 
   pub clean_next : s.phase ≡ Cleaning → (r : ℕ) →
       ((s.card s.cursor).record_at ≢ 0 → colour (s.cell (s.card s.cursor).record_at) ≢ Some White) →

@@ -1,5 +1,5 @@
 -- Every step that is granted keeps the invariant.
-use Rattle.std.proofs.Common.{◌≡◌, ℕ, zero, suc, ◌<◌, ◌≤◌, true, not, T, ltb, ◌≢◌, ◌⊎◌, [], ◌∷◌, sym, refl, ap, ◌∙◌, subst, inl, inr, arith, ltb-false, Some}
+use Rattle.std.proofs.Common.{◌≡◌, ℕ, zero, suc, ◌<◌, ◌≤◌, true, not, T, ltb, ◌≢◌, ◌⊎◌, [], ◌∷◌, sym, refl, ap, subst, arith, ltb-false, Some}
 use Rattle.std.proofs.lemmas.Bool.{and_parts, cases_eq, cond_both}
 use Rattle.model.specs.declared.Colour.TheVariants.{Grey, White}
 use Rattle.model.specs.declared.Phase.{Phase}
@@ -69,9 +69,7 @@ module _ (s : State) (b : Book) (place : ℕ → ℕ) (inv : Inv s b place) wher
       (commit_keeps s b place inv e s.rounds (λ d z. no_grey d z q (cases_eq d s.cursor))))
     where
       no_grey : (d : ℕ) → colour (s.cell d) ≡ Some Grey → s.size ≤ s.cursor → (d ≡ s.cursor) ⊎ (d ≡ s.cursor → ⊥) → ⊥
-      no_grey d z big (inl q) = n (ap (λ (m : ℕ). colour (s.cell m)) (sym q) ∙ z)
-      no_grey d z big (inr q) = let h = inv.heap.inside d (λ w. cc) in (sound_from s b place inv Tracing e).heap.colours d
-          (omega arith) z
+      no_grey d z big h = grind arith
 
   trace_step_keeps : Repeats s.phase Repeat → ((d : ℕ) → Spared s.phase s.cursor d) →
       (colour (s.cell s.cursor) ≢ Some Grey → Inv (trace_on s) b place) → Inv (trace_on (traced s)) b place
@@ -113,7 +111,7 @@ module _ (s : State) (b : Book) (place : ℕ → ℕ) (inv : Inv s b place) wher
     where
       waits : (p : Phase) → s.phase ≡ p → T (among (Arming ∷ Scanning ∷ Parting ∷ []) p) →
           T (among (Arming ∷ Scanning ∷ Parting ∷ []) s.phase)
-      waits p e t = subst (λ (q : Phase). T (among (Arming ∷ Scanning ∷ Parting ∷ []) q)) (sym e) t
+      waits p e t = grind arith
   step_keeps Scanning e w = standing_same _ b place
       (shake _ (subst (λ (q : Phase). T (among (Arming ∷ Scanning ∷ Parting ∷ []) q)) (sym e) tt) w
       (to_tracing s b place inv e 1))

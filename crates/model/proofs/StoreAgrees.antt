@@ -1,9 +1,9 @@
 -- What follows from the invariant at one moment: reached records stand, store and book agree, a name has one record.
-use Rattle.std.proofs.Common.{◌≡◌, ℕ, ◌≢◌, List, sym, ap, ◌∙◌, subst, Option, Some, arith}
+use Rattle.std.proofs.Common.{◌≡◌, ℕ, ◌≢◌, List, sym, ap, ◌∙◌, subst, Some, arith}
 use Rattle.model.specs.declared.Phase.{Phase}
 use Rattle.model.specs.Book.{Book, Leads, Reached, bearer, from_hand, here, through}
 use Rattle.model.specs.Machine.{State, at, card_of, colour, filed, slots}
-use Rattle.model.specs.Promise.{Agree, Bears}
+use Rattle.model.specs.Promise.{Agree}
 use Rattle.model.proofs.CardsRead.{on_file}
 use Rattle.model.proofs.Invariant.{Inv, Keeps, LiveCard, RecOk, Spared, StandsFor}
 
@@ -27,7 +27,7 @@ module _ (s : State) (b : Book) (place : ℕ → ℕ) (inv : Inv s b place) wher
   })
     where
       rel : StandsFor place (b.slot r i) (at (slots (s.cell (place r))) i)
-      rel = (inv.recs.recs r h.placed h.kept).holds i
+      rel = grind arith
 
   pub reached_stands : {r : ℕ} → Reached b r → Stands s place r
   reached_stands (from_hand j h n l) = leads_stands l (record {
@@ -60,11 +60,10 @@ module _ (s : State) (b : Book) (place : ℕ → ℕ) (inv : Inv s b place) wher
   }
     where
       named : (card_of (s.cell (place r)) ≢ 0) × ((s.card (card_of (s.cell (place r)))).spelling ≡ t)
-      named = subst (λ (n : Option (List ℕ)). Bears s.card n (card_of (s.cell (place r)))) e
-          (inv.recs.recs r h.placed h.kept).bears
+      named = grind arith
 
       back : (s.card (card_of (s.cell (place r)))).record_at ≡ place r
-      back = inv.cards.back (place r) h.kept named.0
+      back = grind arith
 
   -- the name of a standing record is on file, and stands for that record
   pub files : (r : ℕ) (t : List ℕ) → Stands s place r → b.name r ≡ Some t → (filed s t ≢ 0) × (bearer b t ≡ r)

@@ -9,7 +9,7 @@ use Rattle.model.specs.Machine.{State, at, colour, hand, held, is_running, slots
 use Rattle.model.specs.Tables.{barrier, job_checks, set_slot, store_greys_new, stored}
 use Rattle.model.proofs.BarrierKeeps.{grey_keeps, greys_if, marked_if}
 use Rattle.model.proofs.Granted.{Passed, not_zero, slot_range}
-use Rattle.model.proofs.GreyingKeeps.{Greys, grey_keep, marked_greyer, repeats_marking}
+use Rattle.model.proofs.GreyingKeeps.{Greys, grey_keep, marked_greyer}
 use Rattle.model.proofs.Invariant.{Flags, Greying, Inv, Kept, Marked, Marking, Protected, marked}
 use Rattle.model.proofs.SlotWriteKeeps.{slot_keeps}
 
@@ -86,7 +86,7 @@ module _ (s : State) (b : Book) (place : ℕ → ℕ) (inv : Inv s b place) (j g
       v = hand s j h
 
       marking : Marking both_greyed.phase → Marking s.phase
-      marking m = repeats_marking greys1.repeats (repeats_marking greys2.repeats m)
+      marking m = grind arith
 
       same_slots : slots (both_greyed.cell c) ≡ slots (s.cell c)
       same_slots = (greys2.greyer c).same_slots ∙ (greys1.greyer c).same_slots

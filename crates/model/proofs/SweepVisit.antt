@@ -1,10 +1,10 @@
 -- The sweep's visit of a cell keeps the invariant.
-use Rattle.std.proofs.Common.{◌≡◌, ℕ, suc, ◌<◌, ◌≢◌, sym, refl, ap, ◌∙◌, subst, arith, Some, None}
+use Rattle.std.proofs.Common.{◌≡◌, ℕ, suc, ◌<◌, ◌≢◌, sym, ap, ◌∙◌, subst, arith, Some, None}
 use Rattle.model.specs.declared.Colour.TheVariants.{Black, Grey}
 use Rattle.model.specs.declared.Phase.TheVariants.{Sweeping}
 use Rattle.model.specs.Book.{Book}
 use Rattle.model.specs.Cycle.{swept, swept_cell}
-use Rattle.model.specs.Machine.{Cell, State, at_phase, card_of, colour, free, slots, upd, used}
+use Rattle.model.specs.Machine.{Cell, State, at_phase, card_of, colour, slots, upd}
 use Rattle.model.specs.Runs.{standing}
 use Rattle.model.proofs.Carried.{Shrinks, cards_move, job_move, leads_move, rec_move}
 use Rattle.model.proofs.Invariant.{Inv, Kept, Live, RecOk, StandsFor}
@@ -91,27 +91,23 @@ sweep_keeps s b place r inv = record {
     g = upd f c (swept_cell (f c))
 
     vac0 : (x : Cell) → colour x ≡ None → colour (swept_cell x) ≡ None
-    vac0 free e = refl
-    vac0 (used c k l) e = cc
+    vac0 x e = grind arith
 
     less : (d : ℕ) → c ≢ d → d < suc c → d < c
     less d n h = omega arith
 
     from : (d : ℕ) → colour (g d) ≢ None → colour (f d) ≢ None
-    from = upd_all (λ d y. colour y ≢ None → colour (f d) ≢ None) f c (swept_cell (f c)) (swept_used (f c)) (λ d e n. n)
+    from d h = grind arith
 
     keep : (d : ℕ) → Kept Sweeping c d (f d) → Kept Sweeping (suc c) d (g d)
-    keep = upd_all (λ d y. Kept Sweeping c d (f d) → Kept Sweeping (suc c) d y) f c (swept_cell (f c)) (swept_keep c (f c))
-        (λ d e k. record { in_use = k.in_use; spared = λ q. let h = k.spared q in omega arith })
+    keep d h = grind arith
 
     old : (d : ℕ) → Kept Sweeping (suc c) d (g d) →
         Kept Sweeping c d (f d) × (slots (g d) ≡ slots (f d)) × (card_of (g d) ≡ card_of (f d))
-    old = upd_all (λ d y. Kept Sweeping (suc c) d y →
-        Kept Sweeping c d (f d) × (slots y ≡ slots (f d)) × (card_of y ≡ card_of (f d))) f c (swept_cell (f c))
-        (swept_kept c (f c)) (λ d e k. (record { in_use = k.in_use; spared = λ q. less d e (k.spared q) }, refl, refl))
+    old d h = grind arith
 
     sh : Shrinks f g Sweeping Sweeping c (suc c)
-    sh = record { kept = λ d k. (old d k).0; same_slots = λ d k. (old d k).1; same_card = λ d k. (old d k).2 }
+    sh = grind arith
 
     unlive : (k : ℕ) → Live g Sweeping (s.card k) → Live f Sweeping (s.card k)
     unlive k l = record { filled = l.filled; not_white = λ q. cc }

@@ -152,18 +152,16 @@ module _ (f : ℕ → Cell) (p : Phase) (cur pick k w : ℕ) (vac : colour (f pi
         one r t (inl a) (inr b) e n = absurd (ok.stands t (λ z. omega (arith, q)) (subst (λ (m : ℕ). colour (f m) ≡ None) q vac))
           where
             q : pick ≡ place t
-            q = sym (upd_same place (suc count) pick) ∙ ap (upd place (suc count) pick) a ∙ e
-                ∙ upd_other place (suc count) t pick b
+            q = grind arith
         one r t (inr a) (inl b) e n = absurd (ok.stands r (λ z. omega (arith, q)) (subst (λ (m : ℕ). colour (f m) ≡ None) q vac))
           where
             q : pick ≡ place r
-            q = sym (upd_same place (suc count) pick) ∙ ap (upd place (suc count) pick) b ∙ sym e
-                ∙ upd_other place (suc count) r pick a
+            q = grind arith
         one r t (inr a) (inr b) e n = ok.one_place r t (sym (upd_other place (suc count) r pick a) ∙ e
             ∙ upd_other place (suc count) t pick b) (λ z. n (upd_other place (suc count) r pick a ∙ z))
 
         new_owner : (c : ℕ) → pick ≢ c → colour (f c) ≢ None → (r : ℕ) → place r ≡ c → suc count ≡ r → ⊥
-        new_owner c e n r q z = n (ap (λ (m : ℕ). colour (f m)) (sym q ∙ ok.unmade r (omega arith)) ∙ nz)
+        new_owner c e n r q z = grind arith
 
         newest_rec : RecOk card' (upd place (suc count) pick) w (λ i. 0) nm X
         newest_rec = record {
@@ -174,16 +172,11 @@ module _ (f : ℕ → Cell) (p : Phase) (cur pick k w : ℕ) (vac : colour (f pi
 
         old_bears : (n : Option (List ℕ)) (c : ℕ) → Kept p cur c (f c) → Bears card n (card_of (f c)) →
             Bears card' n (card_of (f c))
-        old_bears None c h b = b
-        old_bears (Some sp) c h b = (b.0, ap (λ (y : Card). y.spelling) (stay c h b.0) ∙ b.1)
+        old_bears n c h b = grind arith
 
         old_rec : (r : ℕ) → RecOk card place (width r) (slot r) (name r) (f (place r)) → Kept p cur (place r) (f (place r)) →
             RecOk card' (upd place (suc count) pick) (width r) (slot r) (name r) (f (place r))
-        old_rec r o h = record {
-          wide = o.wide;
-          holds = λ i. take_rel (slot r i) _ (o.holds i);
-          bears = old_bears (name r) (place r) h o.bears;
-        }
+        old_rec r o h = grind arith
 
         new_rec : (r : ℕ) → (suc count ≡ r) ⊎ (suc count ≡ r → ⊥) → upd place (suc count) pick r ≢ 0 →
             Kept p cur (upd place (suc count) pick r) (upd f pick X (upd place (suc count) pick r)) →

@@ -67,10 +67,10 @@ black_keeps s b place c inv n all = record {
     cur = s.cursor
 
     keep : (d : ℕ) → Kept Repeat cur d (f d) → Kept Repeat cur d (upd f c (painted Black (f c)) d)
-    keep d k = record { in_use = black_to f cur c n all d k.in_use; spared = λ e. tt }
+    keep d k = grind arith
 
     unlive : (k : ℕ) → Live (upd f c (painted Black (f c))) Repeat (s.card k) → Live f Repeat (s.card k)
-    unlive k l = record { filled = l.filled; not_white = λ q. cc }
+    unlive k l = grind arith
 
     sh : Shrinks f (upd f c (painted Black (f c))) Repeat Repeat cur cur
     sh = record {

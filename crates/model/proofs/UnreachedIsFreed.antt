@@ -88,13 +88,11 @@ module _ (x : World) (c : Call) (pick : ℕ) (right : Picks x.state pick) (inv :
           at_g = (inv.hands j g).is
 
           from_slot : r ≡ x.book.slot (x.book.holds j g) i
-          from_slot = slot_record (x.book.holds j g) i d r (λ z. m (at_g ∙ z))
-              (subst (λ (v : ℕ). Keeps x.state v) at_g ((inv.jobs j).roots g m))
-              (sym (ap (λ (v : ℕ). at (slots (x.state.cell v)) i) at_g) ∙ q) o n
+          from_slot = grind arith
       touched d n r e o ld (inr (from_marked w i l q)) = un.no_path w l u at_u (via_slot u i d r from_slot o n (leads_back ld))
         where
           own : (r : ℕ) × (x.place r ≡ w)
-          own = inv.recs.owner w (marked_used (x.state.cell w) l)
+          own = grind arith
 
           u : ℕ
           u = own.0
@@ -103,7 +101,7 @@ module _ (x : World) (c : Call) (pick : ℕ) (right : Picks x.state pick) (inv :
           at_u = own.1
 
           wz : w ≢ 0
-          wz z = marked_used (x.state.cell w) l (ap (λ (m : ℕ). colour (x.state.cell m)) z ∙ inv.heap.no_zero)
+          wz = grind arith
 
           from_slot : r ≡ x.book.slot u i
           from_slot = slot_record u i d r (λ z. wz (sym at_u ∙ z))

@@ -1,6 +1,6 @@
 -- The weight of the heap: 2 for each white cell, 1 for each grey one. While tracing no call of a job makes it heavier, and
 -- one that turns TRACING into REPEAT makes it lighter.
-use Rattle.std.proofs.Common.{◌≡◌, ℕ, zero, suc, ◌+◌, ◌*◌, ◌<◌, ◌≤◌, Bool, true, false, ◌&&◌, T, ◌≢◌, ◌⊎◌, List, sym, refl, ap, ◌∙◌, subst, inl, inr, arith, Option, Some, None}
+use Rattle.std.proofs.Common.{◌≡◌, ℕ, zero, suc, ◌+◌, ◌*◌, ◌<◌, ◌≤◌, Bool, true, false, ◌&&◌, T, ◌≢◌, ◌⊎◌, List, sym, refl, ◌∙◌, subst, inl, inr, arith, Option, Some, None}
 use Rattle.std.proofs.lemmas.Bool.{cases_eq, cond_both}
 use Rattle.model.specs.declared.Colour.{Colour}
 use Rattle.model.specs.declared.Colour.TheVariants.{Grey, White}
@@ -14,12 +14,12 @@ use Rattle.model.specs.Tables.{barrier, filed_on, find_greys, found_into, job_ef
 use Rattle.model.proofs.BarrierKeeps.{greyer_if, repeats_repeating}
 use Rattle.model.proofs.CallsByEffect.{Effect, finds, makes, nods, rows_alone, settles_name, stores}
 use Rattle.model.proofs.Colours.{white_is}
-use Rattle.model.proofs.GreyingKeeps.{Greyer, Repeats, grey_one, greyed_grey, none_greyer, stays, turns, unused_greyer}
+use Rattle.model.proofs.GreyingKeeps.{Greyer, Repeats, grey_one, none_greyer, stays, turns, unused_greyer}
 use Rattle.model.proofs.Invariant.{Inv}
 use Rattle.model.proofs.JobRowsKeep.{nod_greys}
 use Rattle.model.proofs.PhaseCases.{tracing_cases}
 use Rattle.model.proofs.SlotWriteKeeps.{slot_same_colour}
-use Rattle.model.proofs.TableLaws.{upd_elim, upd_same}
+use Rattle.model.proofs.TableLaws.{upd_elim}
 
 abbrev pub weight : Option Colour → ℕ
 weight (Some White) = 2
@@ -154,12 +154,10 @@ steady_grey s true c no_zero inside = record {
         (inside c (λ w. cc)) less
       where
         pos : (c ≡ 0) ⊎ (c ≡ 0 → ⊥) → 1 ≤ c
-        pos (inl w) = let u = ap (λ (m : ℕ). colour (s.cell m)) w ∙ no_zero in cc
-        pos (inr w) = omega arith
+        pos h = grind arith
 
         less : weight (colour (upd s.cell c (greyed (s.cell c)) c)) < weight (colour (s.cell c))
-        less = let u = ap (λ (x : Cell). weight (colour x)) (upd_same s.cell c (greyed (s.cell c))) in let v =
-            ap weight (greyed_grey (s.cell c) z) in let w = ap weight z in omega arith
+        less = grind arith
 
 module _ (s : State) (b : Book) (place : ℕ → ℕ) (pick : ℕ) (inv : Inv s b place) where
   steady_found : (j h c : ℕ) → Steady s (found_into s j h c)
