@@ -97,12 +97,6 @@ module _ (s : State) (b : Book) (place : ℕ → ℕ) (inv : Inv s b place) wher
         (λ e u. inr (in_hand j h (filled (with_cards (with_cells s (upd s.cell pick x)) card' l) j h pick refl rng ∙ e)))
         (λ e u. inl u);
   }
-    where
-      alive : (k : ℕ) → LiveCard s k → Live (upd s.cell pick x) s.phase (s.card k)
-      alive k v = record {
-        filled = v.filled;
-        not_white = grind arith;
-      }
 
   make_change : (c : Call) (pick j h w : ℕ) → colour (s.cell pick) ≡ None → (1 ≤ h) × (h ≤ 8) →
       Changes c s (set_hand (taken s pick 0 w) j h pick)

@@ -1,12 +1,11 @@
 -- The visit of a card whose record is white, in CLEANING, keeps the invariant.
-use Rattle.std.proofs.Common.{◌≡◌, ℕ, ◌<◌, ◌≤◌, ◌≢◌, ◌⊎◌, List, refl, ap, ◌∙◌, Option, Some, arith}
+use Rattle.std.proofs.Common.{◌≡◌, ℕ, ◌<◌, ◌≤◌, ◌≢◌, ◌⊎◌, refl, ap, ◌∙◌, Some, arith}
 use Rattle.std.proofs.lemmas.Bool.{cases_eq}
 use Rattle.model.specs.declared.Colour.TheVariants.{White}
 use Rattle.model.specs.declared.Phase.{Phase}
 use Rattle.model.specs.declared.Phase.TheVariants.{Cleaning}
 use Rattle.model.specs.Book.{Book}
 use Rattle.model.specs.Machine.{Card, Cell, State, card_of, colour, upd, with_cards}
-use Rattle.model.specs.Promise.{Bears}
 use Rattle.model.proofs.Invariant.{Inv, Kept, Live}
 use Rattle.model.proofs.TableLaws.{upd_all, upd_other}
 
@@ -51,9 +50,6 @@ clean_keeps s b place inv e z = record {
 
     dead : (d : ℕ) → Kept p cur d (f d) → (s.card c).record_at ≡ d → ⊥
     dead d k q = grind arith
-
-    bears : (n : Option (List ℕ)) (k : ℕ) → Bears s.card n k → Bears (upd s.card c C) n k
-    bears n k h = grind arith
 
     inv_distinct : (k m : ℕ) → (c ≡ k) ⊎ (c ≡ k → ⊥) → (c ≡ m) ⊎ (c ≡ m → ⊥) → Live f p (upd s.card c C k) →
         Live f p (upd s.card c C m) → (upd s.card c C k).spelling ≡ (upd s.card c C m).spelling → k ≡ m

@@ -6,9 +6,6 @@ use Rattle.model.specs.declared.Phase.{Phase}
 use Rattle.model.specs.Machine.{Cell, at, colour, is_free, is_grey, is_white, slots}
 use Rattle.model.proofs.Invariant.{Kept, Marked}
 
-pub some_none : (c : Colour) → Some c ≢ None
-some_none c e = cc
-
 pub free_white : {l : Option Colour} → l ≡ None → l ≡ Some White → ⊥
 free_white a b = cc
 
@@ -32,9 +29,6 @@ white_is x e = grind arith
 
 pub white_not : (x : Cell) → is_white x ≡ false → colour x ≢ Some White
 white_not x e = grind arith
-
-pub is_white_at : (x : Cell) → colour x ≡ Some White → is_white x ≡ true
-is_white_at x z = grind arith
 
 pub grey_is : (x : Cell) → is_grey x ≡ true → colour x ≡ Some Grey
 grey_is x e = grind arith

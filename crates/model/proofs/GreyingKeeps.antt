@@ -54,9 +54,6 @@ black_greyer a v = grind arith
 pub none_greyer : {x y : Cell} → Greyer x y → colour x ≡ None → colour y ≡ None
 none_greyer a v = grind arith
 
-pub greyed_grey : (x : Cell) → colour x ≡ Some White → colour (greyed x) ≡ Some Grey
-greyed_grey x e = grind arith
-
 pub marked_one : (f : ℕ → Cell) (c : ℕ) → colour (f c) ≢ None → Marked (colour (upd f c (greyed (f c)) c))
 marked_one f c n = grind arith
 

@@ -156,13 +156,6 @@ module _ (s : State) (b : Book) (place : ℕ → ℕ) (inv : Inv s b place) wher
     colours = no_grey;
     flags = λ j o. tt;
   })
-    where
-      black_kept : (c : ℕ) → colour (s.cell c) ≡ Some Black → Kept Cleaning 1 c (s.cell c)
-      black_kept c d = grind arith
-
-      is_black : (c : ℕ) (l : Option Colour) → colour (s.cell c) ≡ l → Kept Cleaning 1 c (s.cell c) →
-          colour (s.cell c) ≡ Some Black
-      is_black c l q k = grind arith
 
   pub clean_next : s.phase ≡ Cleaning → (r : ℕ) →
       ((s.card s.cursor).record_at ≢ 0 → colour (s.cell (s.card s.cursor).record_at) ≢ Some White) →

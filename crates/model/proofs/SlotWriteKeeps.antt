@@ -13,9 +13,6 @@ use Rattle.model.proofs.TableLaws.{length_put, put_elim, upd_all, upd_elim, upd_
 slot_colour : (i v : ℕ) (x : Cell) → colour (with_slot i v x) ≡ colour x
 slot_colour i v x = grind arith
 
-slot_card : (i v : ℕ) (x : Cell) → card_of (with_slot i v x) ≡ card_of x
-slot_card i v x = grind arith
-
 slot_slots : (i v : ℕ) (x : Cell) → colour x ≢ None → slots (with_slot i v x) ≡ put (slots x) i v
 slot_slots i v x n = grind arith
 

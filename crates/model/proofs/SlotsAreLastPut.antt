@@ -114,9 +114,6 @@ new_edge b c a u r i = go (slots_stay_or_store b c a u)
     Edge : Call → ℕ → Type 0
     Edge d v = (b.slot r i ≡ v) ⊎ ((j : ℕ) × (h : ℕ) × ((write b d a).holds j h ≡ v))
 
-    stored : (j g k h : ℕ) → Edge (by j (store g k h)) ((write b (by j (store g k h)) a).slot r i)
-    stored j g k h = grind arith
-
     go : SlotsStay b c a ⊎ IsStore c → (write b c a).slot r i ≢ 0 → Edge c ((write b c a).slot r i)
     go h n = grind arith
 

@@ -1,5 +1,5 @@
 -- What a step may change of kept records, names and marks; and so what any call may change.
-use Rattle.std.proofs.Common.{◌≡◌, ℕ, zero, suc, ◌<◌, ◌≤◌, cond, ltb, ◌≢◌, ◌⊎◌, sym, refl, ap, ◌∙◌, subst, inl, inr, arith, Some, None}
+use Rattle.std.proofs.Common.{◌≡◌, ℕ, zero, suc, ◌<◌, ◌≤◌, cond, ltb, ◌≢◌, ◌⊎◌, sym, refl, ap, ◌∙◌, subst, inl, inr, arith, Some}
 use Rattle.std.proofs.lemmas.Bool.{cond_both}
 use Rattle.model.specs.declared.Colour.TheVariants.{Black, Grey, White}
 use Rattle.model.specs.declared.Phase.{Phase}
@@ -14,7 +14,7 @@ use Rattle.model.proofs.CallChanges.{Changes, Touched, from_marked, job_changes,
 use Rattle.model.proofs.CallsByEffect.{effect_of}
 use Rattle.model.proofs.Colours.{free_white, grey_is}
 use Rattle.model.proofs.Granted.{Passed, next_cases}
-use Rattle.model.proofs.GreyingKeeps.{grey_list, marked_in, used_greyer}
+use Rattle.model.proofs.GreyingKeeps.{marked_in}
 use Rattle.model.proofs.Invariant.{Inv, Marked, Sound, Spared}
 use Rattle.model.proofs.PhaseCases.{phase_is}
 use Rattle.model.proofs.SlotsAreLastPut.{new_edge, write_count}
@@ -57,12 +57,6 @@ module _ (s : State) (b : Book) (place : ℕ → ℕ) (inv : Inv s b place) wher
     where
       g : ℕ → Cell
       g = grey_all s.cell (slots (s.cell s.cursor))
-
-      used_g : colour (g s.cursor) ≢ None
-      used_g = used_greyer (grey_list s.cell (slots (s.cell s.cursor)) s.cursor) (λ z. cc)
-
-      from : (d : ℕ) → colour (upd g s.cursor (painted Black (g s.cursor)) d) ≢ None → colour (g d) ≢ None
-      from d h = grind arith
 
       go : (d : ℕ) → Marked (colour (s.cell d)) ⊎ ((i : ℕ) × (at (slots (s.cell s.cursor)) i ≡ d)) →
           Marked (colour (s.cell d)) ⊎ Touched s (at_phase (scanned s) q cur r) d

@@ -30,20 +30,9 @@ standing_for place s r v n h = grind arith
 pub standing_same : (s : State) (b : Book) (place : ℕ → ℕ) → Inv s b place → Inv s b (standing place s)
 standing_same s b place inv = grind arith
 
--- what the sweep makes of a cell
-swept_kept : (cur : ℕ) (x : Cell) → Kept Sweeping (suc cur) cur (swept_cell x) →
-    Kept Sweeping cur cur x × (slots (swept_cell x) ≡ slots x) × (card_of (swept_cell x) ≡ card_of x)
-swept_kept cur x k = grind arith
-
-swept_keep : (cur : ℕ) (x : Cell) → Kept Sweeping cur cur x → Kept Sweeping (suc cur) cur (swept_cell x)
-swept_keep cur x k = grind arith
-
 swept_colour : (cur : ℕ) (x : Cell) → colour x ≢ Some Grey →
     (colour (swept_cell x) ≢ Some Grey) × (colour (swept_cell x) ≢ Some Black)
 swept_colour cur x n = grind arith
-
-swept_used : (x : Cell) → colour (swept_cell x) ≢ None → colour x ≢ None
-swept_used x n = grind arith
 
 pub sweep_keeps : (s : State) (b : Book) (place : ℕ → ℕ) (r : ℕ) → Inv (at_phase s Sweeping s.cursor s.rounds) b place →
     Inv (at_phase (swept s) Sweeping (suc s.cursor) r) b (standing place (swept s))

@@ -11,14 +11,11 @@ use Rattle.model.specs.Machine.{Card, Cell, Job, bears, card_of, colour, upd, us
 use Rattle.model.specs.Promise.{Bears}
 use Rattle.model.proofs.Carried.{job_move, protected_map}
 use Rattle.model.proofs.Colours.{free_slots, marked_used}
-use Rattle.model.proofs.Invariant.{CardsOk, ColourOk, HeapOk, JobOk, Kept, Live, Protected, RecOk, RecsOk, StandsFor}
+use Rattle.model.proofs.Invariant.{CardsOk, ColourOk, HeapOk, JobOk, Kept, Live, Protected, RecOk, RecsOk}
 use Rattle.model.proofs.TableLaws.{at_zeros, upd_all, upd_elim, upd_other, upd_same}
 
 new_colour_ok : (p : Phase) (cur c : ℕ) → ColourOk p cur c (Some (new_colour p cur c))
 new_colour_ok p cur c = grind arith
-
-new_cleaning : (p : Phase) (cur c : ℕ) → p ≡ Cleaning → Some (new_colour p cur c) ≢ Some White
-new_cleaning p cur c e = grind arith
 
 -- the latest record of a spelling
 pub latest_most : (f : ℕ → Option (List ℕ)) (n : ℕ) (sp : List ℕ) → latest f n sp ≤ n
@@ -118,9 +115,6 @@ module _ (f : ℕ → Cell) (p : Phase) (cur pick k w : ℕ) (vac : colour (f pi
   -- the book's new record
   module _ (card card' : ℕ → Card) (count : ℕ) (width : ℕ → ℕ) (slot : ℕ → ℕ → ℕ) (name : ℕ → Option (List ℕ)) (place : ℕ →
       ℕ) (nm : Option (List ℕ)) (ok : RecsOk f p cur card count width slot name place) where
-    pub take_rel : (r v : ℕ) → StandsFor place r v → StandsFor (upd place (suc count) pick) r v
-    take_rel r v h = grind arith
-
     pub take_recs : colour (f 0) ≡ None → 1 ≤ pick →
         ((c : ℕ) → Kept p cur c (f c) → card_of (f c) ≢ 0 → card' (card_of (f c)) ≡ card (card_of (f c))) →
         Bears card' nm k →
@@ -169,10 +163,6 @@ module _ (f : ℕ → Cell) (p : Phase) (cur pick k w : ℕ) (vac : colour (f pi
           holds = grind (arith, at_zeros, upd_other, suc-ne-zero);
           bears = bears;
         }
-
-        old_bears : (n : Option (List ℕ)) (c : ℕ) → Kept p cur c (f c) → Bears card n (card_of (f c)) →
-            Bears card' n (card_of (f c))
-        old_bears n c h b = grind arith
 
         old_rec : (r : ℕ) → RecOk card place (width r) (slot r) (name r) (f (place r)) → Kept p cur (place r) (f (place r)) →
             RecOk card' (upd place (suc count) pick) (width r) (slot r) (name r) (f (place r))

@@ -79,9 +79,6 @@ repeats_trans : {p q r : Phase} → Repeats p q → Repeats q r → Repeats p r
 repeats_trans stays b = b
 repeats_trans turns b = repeats_after b refl
 
-repeats_tracing : {p q : Phase} → Repeats p q → T (is_tracing p) → T (is_tracing q)
-repeats_tracing h t = grind arith
-
 repeats_cases : {p q : Phase} → Repeats p q → p ≡ Tracing → (q ≡ Tracing) ⊎ (q ≡ Repeat)
 repeats_cases h e = grind arith
 
