@@ -32,26 +32,16 @@ pub marked_was : (t : Bool) (f : ℕ → Cell) (c d : ℕ) → Marked (colour (c
 marked_was t f c d l = grind arith
 
 module _ (f : ℕ → Cell) (p : Phase) (cur c : ℕ) (greying : colour (f c) ≡ Some White → Greying p) where
-  spare_one : (d : ℕ) → colour (f d) ≡ Some White → colour (upd f c (greyed (f c)) d) ≡ Some Grey → Spared p cur d
-  spare_one d a b = grind arith
-
-  colours_one : ((d : ℕ) → ColourOk p cur d (colour (f d))) →
-      (d : ℕ) → ColourOk (phase_if true (f c) p) cur d (colour (upd f c (greyed (f c)) d))
-  colours_one h d = grind arith
-
-  repeats_one : Repeats p (phase_if true (f c) p)
-  repeats_one = cond_both (is_white (f c)) (repeating p) p (λ q. Repeats p q) (λ z. repeats_repeating p) (λ z. stays)
 
 -- greying one cell is greying, where only spared records are greyed
 pub greys_if : (t : Bool) (f : ℕ → Cell) (p : Phase) (cur c : ℕ) → (t ≡ true → colour (f c) ≡ Some White → Greying p) →
     Greys f (cells_if t f c) p (phase_if t (f c) p) cur
-greys_if true f p cur c greying = record {
-  greyer = grey_one f c;
-  repeats = repeats_one f p cur c (greying refl);
-  spare = spare_one f p cur c (greying refl);
-  colours = colours_one f p cur c (greying refl);
+greys_if t f p cur c greying = record {
+  greyer = grind arith;
+  repeats = grind (arith, repeats_repeating, stays);
+  spare = grind arith;
+  colours = grind arith;
 }
-greys_if false f p cur c greying = greys_refl f p cur
 
 pub grey_keeps : (s : State) (b : Book) (place : ℕ → ℕ) (t : Bool) (c : ℕ) → Inv s b place →
     (t ≡ true → colour (s.cell c) ≡ Some White → Greying s.phase) → Inv (grey_if t s c) b place

@@ -9,9 +9,6 @@ use Rattle.model.proofs.Invariant.{Kept, Marked}
 pub free_white : {l : Option Colour} → l ≡ None → l ≡ Some White → ⊥
 free_white a b = cc
 
-pub grey_white : {l : Option Colour} → l ≡ Some Grey → l ≡ Some White → ⊥
-grey_white a b = cc
-
 pub black_or : (l : Option Colour) → (l ≡ Some Black) ⊎ (l ≢ Some Black)
 black_or l = grind arith
 

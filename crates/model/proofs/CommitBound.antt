@@ -37,11 +37,9 @@ below_limit : (n r cur t : ℕ) → cur ≤ n → t + n + 1 ≡ r * n + cur → 
 below_limit n r cur t hi e small = let q = mul-le-mul_right n small in omega arith
 
 bounded : (p : Phase) (n r cur t w : ℕ) → Bounded p n r cur t w → (t ≤ trace_limit n) × (T (is_tracing p) → t < trace_limit n)
-bounded Arming n r cur t w b = (omega arith, λ z. absurd z)
-bounded Scanning n r cur t w b = (omega arith, λ z. absurd z)
-bounded Tracing n r cur t w b = let q = below_limit n r cur t b.1 b.2 (omega arith) in (omega arith, λ z. q)
-bounded Repeat n r cur t w b = let q = below_limit n r cur t b.1 b.2 (omega arith) in (omega arith, λ z. q)
-bounded _ n r cur t w b = (b, λ z. absurd z)
+bounded Tracing n r cur t w b = grind (arith, below_limit n r cur t)
+bounded Repeat n r cur t w b = grind (arith, below_limit n r cur t)
+bounded _ n r cur t w b = grind arith
 
 repeats_bounded : {p q : Phase} (n r cur t w w' : ℕ) → Repeats p q → (T (is_tracing p) → w' ≤ w) →
     (p ≡ Tracing → q ≡ Repeat → w' < w) → Bounded p n r cur t w → Bounded q n r cur t w'

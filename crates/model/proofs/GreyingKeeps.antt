@@ -64,7 +64,7 @@ marked_list f [] zero h n = absurd (h refl)
 marked_list f [] (suc i) h n = absurd (h refl)
 marked_list f (v ∷ vs) zero h n = absurd (h refl)
 marked_list f (v ∷ vs) (suc zero) h n = marked_greyer (grey_list (upd f v (greyed (f v))) vs v) (marked_one f v n)
-marked_list f (v ∷ vs) (suc (suc i)) h n = marked_list (upd f v (greyed (f v))) vs (suc i) h (used_greyer (grey_one f v _) n)
+marked_list f (v ∷ vs) (suc (suc i)) h n = grind (arith, marked_list (upd f v (greyed (f v))) vs (suc i))
 
 -- what is grey or black after greying a list was so, or stands in the list
 pub marked_in : (f : ℕ → Cell) (l : List ℕ) (d : ℕ) → Marked (colour (grey_all f l d)) →
@@ -108,12 +108,7 @@ pub record Greys (f g : ℕ → Cell) (p q : Phase) (cur : ℕ) : Type 0 where
   pub colours : ((d : ℕ) → ColourOk p cur d (colour (f d))) → (d : ℕ) → ColourOk q cur d (colour (g d))
 
 pub greys_refl : (f : ℕ → Cell) (p : Phase) (cur : ℕ) → Greys f f p p cur
-greys_refl f p cur = record {
-  greyer = λ d. greyer_refl (f d);
-  repeats = stays;
-  spare = λ d a b. absurd (grey_white b a);
-  colours = λ h. h;
-}
+greys_refl f p cur = record { greyer = grind arith; repeats = stays; spare = grind arith; colours = λ h. h }
 
 module _ {f g : ℕ → Cell} {p q : Phase} {cur : ℕ} (gr : Greys f g p q cur) where
   pub grey_keep : (d : ℕ) → Kept p cur d (f d) → Kept q cur d (g d)

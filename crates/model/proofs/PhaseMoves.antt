@@ -51,19 +51,9 @@ record PhaseMove (s : State) (t : Bool) (q : Phase) (cur : ℕ) : Type 0 where
   pub colours : (d : ℕ) → ColourOk q cur d (colour (s.cell d))
   pub flags : (j : ℕ) → is_open (s.job j).status ≡ true → Flags q (s.job j).armed (owing_if t (s.job j)).owes
 
--- what was spared stays spared
-even : (s : State) (q : Phase) (cur : ℕ) → ((d : ℕ) → colour (s.cell d) ≡ Some White → Spared q cur d →
-    Spared s.phase s.cursor d) → ((d : ℕ) → colour (s.cell d) ≡ Some White → Spared s.phase s.cursor d →
-    Spared q cur d) → KeptMove s q cur
-even s q cur unspare spare = grind arith
-
 -- neither phase is CLEANING
 not_cleaning : (s : State) (q : Phase) (cur : ℕ) → s.phase ≢ Cleaning → q ≢ Cleaning → CardMove s q cur
 not_cleaning s q cur n m = grind arith
-
--- the new phase is none of marking
-not_marking : (s : State) (t : Bool) (q : Phase) → (Marking q → ⊥) → MarkingMove s t q
-not_marking s t q n = grind arith
 
 phase_keeps : (s : State) (b : Book) (place : ℕ → ℕ) (t : Bool) (q : Phase) (cur r : ℕ) → Inv s b place → PhaseMove s t q cur →
     Inv (moved s t q cur r) b place
@@ -149,42 +139,18 @@ module _ (s : State) (b : Book) (place : ℕ → ℕ) (inv : Inv s b place) wher
 
   pub commit_keeps : s.phase ≡ Tracing → (r : ℕ) → ((d : ℕ) → colour (s.cell d) ≢ Some Grey) →
       Inv (at_phase s Cleaning 1 r) b place
-  commit_keeps e r no_grey = move Tracing e false Cleaning 1 r (record {
-    kept = grind (arith, protected_black, all_protected, sound_from);
-    cards = grind arith;
-    marking = not_marking (from Tracing) false Cleaning (λ m. m);
-    colours = no_grey;
-    flags = λ j o. tt;
-  })
+  commit_keeps e r no_grey = move Tracing e false Cleaning 1 r (grind (arith, protected_black, all_protected, sound_from))
 
   pub clean_next : s.phase ≡ Cleaning → (r : ℕ) →
       ((s.card s.cursor).record_at ≢ 0 → colour (s.cell (s.card s.cursor).record_at) ≢ Some White) →
       Inv (at_phase s Cleaning (suc s.cursor) r) b place
-  clean_next e r is_clean = move Cleaning e false Cleaning (suc s.cursor) r (record {
-    kept = grind arith;
-    cards = grind arith;
-    marking = not_marking (from Cleaning) false Cleaning (λ m. m);
-    colours = (sound_from Cleaning e).heap.colours;
-    flags = λ j o. tt;
-  })
+  clean_next e r is_clean = move Cleaning e false Cleaning (suc s.cursor) r (grind (arith, sound_from))
 
   pub to_parting : s.phase ≡ Cleaning → (r : ℕ) → 512 < s.cursor → Inv (at_phase (all_owe s) Parting 0 r) b place
-  to_parting e r past = move Cleaning e true Parting 0 r (record {
-    kept = even (from Cleaning) Parting 0 (λ d a z. z) (λ d a z. z);
-    cards = grind arith;
-    marking = not_marking (from Cleaning) true Parting (λ m. m);
-    colours = (sound_from Cleaning e).heap.colours;
-    flags = λ j o q. absurd (both_ways _ q o);
-  })
+  to_parting e r past = move Cleaning e true Parting 0 r (grind (arith, sound_from))
 
   pub to_sweeping : s.phase ≡ Parting → (r : ℕ) → NoneOwe s → Inv (at_phase s Sweeping 1 r) b place
-  to_sweeping e r none_owe = move Parting e false Sweeping 1 r (record {
-    kept = grind arith;
-    cards = not_cleaning (from Parting) Sweeping 1 (λ q. cc) (λ q. cc);
-    marking = not_marking (from Parting) false Sweeping (λ m. m);
-    colours = λ d. ((sound_from Parting e).heap.colours d, zero_not d Black);
-    flags = λ j o. ((sound_from Parting e).jobs j).flags o (none_owe j o);
-  })
+  to_sweeping e r none_owe = move Parting e false Sweeping 1 r (grind (arith, sound_from, zero_not))
 
   pub to_normal : s.phase ≡ Sweeping → (r : ℕ) → s.size < s.cursor → Inv (at_phase s Normal 0 r) b place
   to_normal e r past = grind arith

@@ -23,33 +23,23 @@ length_put l i v = grind (arith, length-set)
 pub at_zeros : (n i : ℕ) → at (replicate n 0) i ≡ 0
 at_zeros n zero = refl
 at_zeros zero (suc i) = refl
-at_zeros (suc n) (suc zero) = refl
-at_zeros (suc n) (suc (suc i)) = at_zeros n (suc i)
+at_zeros (suc n) (suc i) = grind (arith, at_zeros n i)
 
 -- the search: what it finds passes the test and stands in the range; where it finds nothing, nothing passes
 pub first_passes : (t : ℕ → Bool) (a n : ℕ) → first t a n ≢ 0 → t (first t a n) ≡ true
 unfolding first
 first_passes t a zero h = absurd (h refl)
-first_passes t a (suc n) h = cond_both (t a) a (first t (suc a) n) (λ r. r ≢ 0 → t r ≡ true) (λ e k. e)
-    (λ e k. first_passes t (suc a) n k) h
+first_passes t a (suc n) h = grind (arith, first_passes t (suc a) n)
 
 pub first_range : (t : ℕ → Bool) (a n : ℕ) → first t a n ≢ 0 → (a ≤ first t a n) × (first t a n < a + n)
 unfolding first
 first_range t a zero h = absurd (h refl)
-first_range t a (suc n) h = cond_both (t a) a (first t (suc a) n) (λ r. r ≢ 0 →
-    (a ≤ r) × (r < a + suc n)) (λ e k. (omega arith, omega arith))
-    (λ e k. let r = first_range t (suc a) n k in (omega arith, omega arith)) h
+first_range t a (suc n) h = grind (arith, first_range t (suc a) n)
 
 pub first_none : (t : ℕ → Bool) (a n : ℕ) → 1 ≤ a → first t a n ≡ 0 → (k : ℕ) → a ≤ k → k < a + n → t k ≡ false
 unfolding first
 first_none t a zero p h k lo hi = absurd (omega arith)
-first_none t a (suc n) p h k lo hi = cond_both (t a) a (first t (suc a) n) (λ r. r ≡ 0 →
-    t k ≡ false) (λ e z. absurd (omega arith))
-    (λ e z. elim (cases_eq a k) [
-      | inl q ↦ subst (λ (m : ℕ). t m ≡ false) q e
-      | inr q ↦ first_none t (suc a) n
-          (omega arith) z k (omega arith) (omega arith)
-    ]) h
+first_none t a (suc n) p h k lo hi = grind (arith, first_none t (suc a) n)
 
 -- the next vacant place passes the test and is in range
 pub vacant_passes : (t : ℕ → Bool) (last n : ℕ) → next_vacant t last n ≢ 0 → t (next_vacant t last n) ≡ true

@@ -21,14 +21,13 @@ new_colour_ok p cur c = grind arith
 pub latest_most : (f : ℕ → Option (List ℕ)) (n : ℕ) (sp : List ℕ) → latest f n sp ≤ n
 unfolding latest
 latest_most f zero sp = omega arith
-latest_most f (suc n) sp = cond_both (is_named (f (suc n)) sp) (suc n) (latest f n sp) (λ r. r ≤ suc n) (λ e. omega arith)
-    (λ e. let q = latest_most f n sp in omega arith)
+latest_most f (suc n) sp = grind (arith, latest_most f n sp)
 
 latest_below : (f : ℕ → Option (List ℕ)) (m n : ℕ) (v : Option (List ℕ)) (sp : List ℕ) → n < m →
     latest (upd f m v) n sp ≡ latest f n sp
 unfolding latest
 latest_below f m zero v sp h = refl
-latest_below f m (suc n) v sp h = rw (upd_other f m (suc n) v (λ e. omega arith), latest_below f m n v sp (omega arith)) refl
+latest_below f m (suc n) v sp h = grind (arith, latest_below f m n v sp)
 
 pub latest_new : (f : ℕ → Option (List ℕ)) (n : ℕ) (v : Option (List ℕ)) (sp : List ℕ) → is_named v sp ≡ true →
     latest (upd f (suc n) v) (suc n) sp ≡ suc n
@@ -38,7 +37,7 @@ latest_new f n v sp h = grind arith
 pub latest_old : (f : ℕ → Option (List ℕ)) (n : ℕ) (v : Option (List ℕ)) (sp : List ℕ) → is_named v sp ≡ false →
     latest (upd f (suc n) v) (suc n) sp ≡ latest f n sp
 unfolding latest
-latest_old f n v sp h = rw (upd_same f (suc n) v, h) (latest_below f (suc n) n v sp (omega arith))
+latest_old f n v sp h = grind (arith, latest_below f (suc n) n v sp)
 
 module _ (f : ℕ → Cell) (p : Phase) (cur pick k w : ℕ) (vac : colour (f pick) ≡ None) where
   take_old : (x : Cell) (d : ℕ) → colour (f d) ≢ None → upd f pick x d ≡ f d
@@ -100,17 +99,10 @@ module _ (f : ℕ → Cell) (p : Phase) (cur pick k w : ℕ) (vac : colour (f pi
 
       go : (m n : ℕ) → (k ≡ m) ⊎ (k ≡ m → ⊥) → (k ≡ n) ⊎ (k ≡ n → ⊥) → Live (upd f pick X) p (upd card k C m) →
           Live (upd f pick X) p (upd card k C n) → (upd card k C m).spelling ≡ (upd card k C n).spelling → m ≡ n
-      go m n (inl a) (inl b) = λ x y e. sym a ∙ b
-      go m n (inl a) (inr b) = rw (upd_other card k n C b)
-          (subst (λ (v : ℕ). Live (upd f pick X) p (upd card k C v) → Live (upd f pick X) p (card n) →
-          (upd card k C v).spelling ≡ (card n).spelling →
-          v ≡ n) a (rw (upd_same card k C) (λ x y e. absurd (off n (take_unlive (card n) y) (sym e)))))
-      go m n (inr a) (inl b) = rw (upd_other card k m C a)
-          (subst (λ (v : ℕ). Live (upd f pick X) p (card m) → Live (upd f pick X) p (upd card k C v) →
-          (card m).spelling ≡ (upd card k C v).spelling →
-          m ≡ v) b (rw (upd_same card k C) (λ x y e. absurd (off m (take_unlive (card m) x) e))))
-      go m n (inr a) (inr b) = rw (upd_other card k m C a, upd_other card k n C b)
-          (λ x y e. ok.distinct m n (take_unlive (card m) x) (take_unlive (card n) y) e)
+      go m n (inl a) (inl b) x y e = sym a ∙ b
+      go m n (inl a) (inr b) x y e = grind (arith, upd_same card k C, upd_other card k n C b)
+      go m n (inr a) (inl b) x y e = grind (arith, upd_same card k C, upd_other card k m C a)
+      go m n (inr a) (inr b) x y e = grind (arith, upd_other card k m C a, upd_other card k n C b)
 
   -- the book's new record
   module _ (card card' : ℕ → Card) (count : ℕ) (width : ℕ → ℕ) (slot : ℕ → ℕ → ℕ) (name : ℕ → Option (List ℕ)) (place : ℕ →
@@ -143,16 +135,9 @@ module _ (f : ℕ → Cell) (p : Phase) (cur pick k w : ℕ) (vac : colour (f pi
         one : (r t : ℕ) → (suc count ≡ r) ⊎ (suc count ≡ r → ⊥) → (suc count ≡ t) ⊎ (suc count ≡ t → ⊥) →
             upd place (suc count) pick r ≡ upd place (suc count) pick t → upd place (suc count) pick r ≢ 0 → r ≡ t
         one r t (inl a) (inl b) e n = sym a ∙ b
-        one r t (inl a) (inr b) e n = absurd (ok.stands t (λ z. omega (arith, q)) (subst (λ (m : ℕ). colour (f m) ≡ None) q vac))
-          where
-            q : pick ≡ place t
-            q = grind arith
-        one r t (inr a) (inl b) e n = absurd (ok.stands r (λ z. omega (arith, q)) (subst (λ (m : ℕ). colour (f m) ≡ None) q vac))
-          where
-            q : pick ≡ place r
-            q = grind arith
-        one r t (inr a) (inr b) e n = ok.one_place r t (sym (upd_other place (suc count) r pick a) ∙ e
-            ∙ upd_other place (suc count) t pick b) (λ z. n (upd_other place (suc count) r pick a ∙ z))
+        one r t (inl a) (inr b) e n = grind (arith, upd_same place (suc count) pick, upd_other place (suc count) t pick b)
+        one r t (inr a) (inl b) e n = grind (arith, upd_same place (suc count) pick, upd_other place (suc count) r pick a)
+        one r t (inr a) (inr b) e n = grind (arith, upd_other place (suc count) r pick a, upd_other place (suc count) t pick b)
 
         new_owner : (c : ℕ) → pick ≢ c → colour (f c) ≢ None → (r : ℕ) → place r ≡ c → suc count ≡ r → ⊥
         new_owner c e n r q z = grind arith

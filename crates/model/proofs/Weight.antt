@@ -31,13 +31,10 @@ pub total : (ℕ → Cell) → ℕ → ℕ
 total f zero = 0
 total f (suc n) = weight (colour (f (suc n))) + total f n
 
-weight_most : (l : Option Colour) → weight l ≤ 2
-weight_most l = grind arith
-
 pub total_most : (f : ℕ → Cell) (n : ℕ) → total f n ≤ 2 * n
 unfolding total
 total_most f zero = omega arith
-total_most f (suc n) = let a = total_most f n in let b = weight_most (colour (f (suc n))) in omega arith
+total_most f (suc n) = grind (arith, total_most f n)
 
 -- no cell is heavier
 abbrev pub Lighter : (ℕ → Cell) → (ℕ → Cell) → Type 0
