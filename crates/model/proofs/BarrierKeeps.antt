@@ -1,14 +1,13 @@
 -- Greying one cell by a call keeps the invariant: the barriers of find, settle and store.
-use Rattle.std.proofs.Common.{◌≡◌, ℕ, Bool, true, false, cond, ◌&&◌, ◌≢◌, ◌⊎◌, refl, Some, None, arith}
-use Rattle.std.proofs.lemmas.Bool.{cond_both}
-use Rattle.model.specs.declared.Colour.TheVariants.{Grey, White}
+use Rattle.std.proofs.Common.{◌≡◌, ℕ, Bool, true, cond, ◌&&◌, ◌≢◌, ◌⊎◌, Some, None, arith}
+use Rattle.model.specs.declared.Colour.TheVariants.{White}
 use Rattle.model.specs.declared.Phase.{Phase}
 use Rattle.model.specs.declared.Phase.TheVariants.{Tracing}
 use Rattle.model.specs.Book.{Book}
 use Rattle.model.specs.Cycle.{grey_if, greyed, repeating}
 use Rattle.model.specs.Machine.{Cell, State, colour, is_white, upd}
-use Rattle.model.proofs.GreyingKeeps.{AllGreyer, Greys, Repeats, grey_one, greying_keeps, greys_refl, stays, turns}
-use Rattle.model.proofs.Invariant.{ColourOk, Greying, Inv, Marked, Spared}
+use Rattle.model.proofs.GreyingKeeps.{AllGreyer, Greys, Repeats, greying_keeps, stays, turns}
+use Rattle.model.proofs.Invariant.{Greying, Inv, Marked}
 
 pub repeats_repeating : (p : Phase) → Repeats p (repeating p)
 repeats_repeating Tracing = turns
@@ -30,8 +29,6 @@ marked_if t f c e n = grind arith
 -- what is grey or black was so, or is the cell greyed
 pub marked_was : (t : Bool) (f : ℕ → Cell) (c d : ℕ) → Marked (colour (cells_if t f c d)) → Marked (colour (f d)) ⊎ (c ≡ d)
 marked_was t f c d l = grind arith
-
-module _ (f : ℕ → Cell) (p : Phase) (cur c : ℕ) (greying : colour (f c) ≡ Some White → Greying p) where
 
 -- greying one cell is greying, where only spared records are greyed
 pub greys_if : (t : Bool) (f : ℕ → Cell) (p : Phase) (cur c : ℕ) → (t ≡ true → colour (f c) ≡ Some White → Greying p) →

@@ -8,7 +8,6 @@ use Rattle.model.specs.Book.{Book}
 use Rattle.model.specs.Cycle.{grey_all, greyed}
 use Rattle.model.specs.Machine.{Card, Cell, Job, State, at, at_phase, card_of, colour, slots, upd, with_cells}
 use Rattle.model.proofs.Carried.{Shrinks, cards_move, job_move, leads_move, protected_map, recs_move}
-use Rattle.model.proofs.Colours.{grey_white}
 use Rattle.model.proofs.Invariant.{CardsOk, ColourOk, Flags, HeapOk, Inv, JobOk, Kept, Live, Marked, Marking, Protected, Spared}
 use Rattle.model.proofs.TableLaws.{upd_elim}
 

@@ -1,6 +1,5 @@
 -- The phase moves on, while cells and cards stay: every such move keeps the invariant, the commit among them.
 use Rattle.std.proofs.Common.{◌≡◌, ℕ, suc, ◌<◌, ◌≤◌, Bool, true, false, cond, ◌&&◌, ◌≢◌, refl, arith, Option, Some}
-use borrow.Author.Tests.{both_ways}
 use Rattle.model.specs.declared.Colour.{Colour}
 use Rattle.model.specs.declared.Colour.TheVariants.{Black, Grey, White}
 use Rattle.model.specs.declared.JobState.{JobState}

@@ -1,6 +1,5 @@
 -- Laws of tables, slot lists, searches and texts.
-use Rattle.std.proofs.Common.{◌≡◌, ℕ, zero, suc, ◌+◌, ◌<◌, ◌≤◌, Bool, true, false, ◌≢◌, List, length, replicate, refl, subst, inl, inr, arith, length-set, get_or-set_other, get_or-set_same}
-use Rattle.std.proofs.lemmas.Bool.{cases_eq, cond_both}
+use Rattle.std.proofs.Common.{◌≡◌, ℕ, zero, suc, ◌+◌, ◌<◌, ◌≤◌, Bool, true, false, ◌≢◌, List, length, replicate, refl, arith, length-set, get_or-set_other, get_or-set_same}
 use Rattle.model.specs.Machine.{at, first, next_vacant, put, upd}
 
 pub upd_elim : {A : Type 0} (P : A → Type 0) (f : ℕ → A) (i j : ℕ) (v : A) → (i ≡ j → P v) → (i ≢ j → P (f j)) → P (upd f i v j)
