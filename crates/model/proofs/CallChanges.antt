@@ -138,10 +138,10 @@ module _ (s : State) (b : Book) (place : ℕ → ℕ) (inv : Inv s b place) wher
       gr2 = greys2 s b place inv j g i h run nz
 
       same_colour : (d : ℕ) → colour (s3.cell d) ≡ colour (s2.cell d)
-      same_colour d = slot_same_colour s2.cell (hand s j g) i (hand s j h) d
+      same_colour d = grind (arith, slot_same_colour)
 
       slot_live : (x : Card) → Live s2.cell s2.phase x → Live s3.cell s3.phase x
-      slot_live x l = record { filled = l.filled; not_white = λ q w. l.not_white q (sym (same_colour x.record_at) ∙ w) }
+      slot_live x l = grind (arith, filled, same_colour)
 
       first : (d : ℕ) → Marked (colour (s.cell d)) ⊎ (at (slots (held s j g)) i ≡ d) →
           Marked (colour (s.cell d)) ⊎ Touched s s3 d

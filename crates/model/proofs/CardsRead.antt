@@ -1,8 +1,7 @@
 -- How cards read: a card that does not read as empty is live, and its spelling is on file.
 use Rattle.std.proofs.Common.{◌≡◌, ℕ, true, false, not, ◌&&◌, eqb, ◌≢◌, List, arith, bytes_eq}
 use Rattle.std.proofs.lemmas.Slice.Eq.{bytes_eq-Decides}
-use borrow.Author.Tests.{both_ways, eqb-false}
-use Rattle.std.proofs.lemmas.Bool.{and_from, and_parts, not_from_false}
+use Rattle.std.proofs.lemmas.Bool.{and_from, and_parts, both_ways, eqb-false, not_from_false}
 use Rattle.model.specs.declared.Phase.TheVariants.{Cleaning}
 use Rattle.model.specs.Book.{Book}
 use Rattle.model.specs.Machine.{State, bears, filed, in_phase, is_white, reads_empty}

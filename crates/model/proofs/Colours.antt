@@ -1,9 +1,9 @@
--- Colours and the tests on them.
+-- Colours and phases, and the tests on them.
 use Rattle.std.proofs.Common.{◌≡◌, ℕ, true, false, ◌≢◌, ◌⊎◌, Option, Some, None, arith}
 use Rattle.model.specs.declared.Colour.{Colour}
 use Rattle.model.specs.declared.Colour.TheVariants.{Black, Grey, White}
 use Rattle.model.specs.declared.Phase.{Phase}
-use Rattle.model.specs.Machine.{Cell, at, colour, is_free, is_grey, is_white, slots}
+use Rattle.model.specs.Machine.{Cell, at, colour, in_phase, is_free, is_grey, is_white, slots}
 use Rattle.model.proofs.Invariant.{Kept, Marked}
 
 pub free_white : {l : Option Colour} → l ≡ None → l ≡ Some White → ⊥
@@ -35,3 +35,6 @@ grey_not x e = grind arith
 
 pub kept_colour : (p : Phase) (cur d : ℕ) (x y : Cell) → colour y ≡ colour x → Kept p cur d x → Kept p cur d y
 kept_colour p cur d x y e h = grind arith
+
+pub phase_is : (q p : Phase) → in_phase q p ≡ true → p ≡ q
+phase_is q p e = grind arith

@@ -8,11 +8,11 @@ use Rattle.model.specs.Machine.{State, among}
 use Rattle.model.specs.Promise.{InCycle}
 use Rattle.model.specs.Runs.{Commits, Picks, Run, Through, World, more, next, now}
 use Rattle.model.specs.Tables.{checks, effect}
+use Rattle.model.proofs.Colours.{phase_is}
 use Rattle.model.proofs.CallsByEffect.{effect_of}
 use Rattle.model.proofs.Granted.{Passed, next_cases}
 use Rattle.model.proofs.GreyingKeeps.{Repeats, stays}
 use Rattle.model.proofs.Invariant.{Sound}
-use Rattle.model.proofs.PhaseCases.{phase_is}
 use Rattle.model.proofs.RunsKeep.{next_sound, run_sound, through_sound}
 use Rattle.model.proofs.Weight.{steady_job, steady_nod}
 

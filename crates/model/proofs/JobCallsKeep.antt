@@ -2,8 +2,7 @@
 -- and follow.
 use Rattle.std.proofs.Common.{◌≡◌, ℕ, suc, true, not, eqb, ◌≢◌, ◌⊎◌, List, [], ◌∷◌, Result, sym, refl, inl, inr, Some, arith}
 use Rattle.std.specs.Result.{result_unwrap_or}
-use borrow.Author.Tests.{eqb-false}
-use Rattle.std.proofs.lemmas.Bool.{cond_both}
+use Rattle.std.proofs.lemmas.Bool.{cond_both, eqb-false}
 use Rattle.refusal.specs.declared.Refusal.{Refusal}
 use Rattle.model.specs.declared.Colour.TheVariants.{Black}
 use Rattle.model.specs.declared.JobState.{JobState}

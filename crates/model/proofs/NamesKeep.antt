@@ -1,7 +1,6 @@
 -- Find, make and settle keep the invariant.
-use Rattle.std.proofs.Common.{◌≡◌, ℕ, suc, ◌≤◌, Bool, true, false, ◌≢◌, List, replicate, sym, refl, ap, ◌∙◌, subst, inl, inr, arith, Option, Some, None, bytes_eq}
+use Rattle.std.proofs.Common.{◌≡◌, ℕ, suc, ◌≤◌, Bool, true, false, ◌≢◌, List, replicate, sym, refl, ap, ◌∙◌, subst, arith, Option, Some, None, bytes_eq}
 use Rattle.std.proofs.lemmas.Slice.Eq.{bytes_eq-Decides}
-use Rattle.std.proofs.lemmas.Bool.{cases_Bool}
 use Rattle.model.specs.declared.Colour.TheVariants.{White}
 use Rattle.model.specs.declared.Phase.{Phase}
 use Rattle.model.specs.Book.{Book, bearer, hold, is_named, latest, new_record}
@@ -156,8 +155,7 @@ module _ (s : State) (b : Book) (place : ℕ → ℕ) (inv : Inv s b place) wher
         C = record { spelling = t; record_at = pick }
 
         other : (m : ℕ) → Live f p (s.card m) → bytes_eq t (s.card m).spelling ≡ false
-        other m l = elim (cases_Bool (bytes_eq t (s.card m).spelling))
-            [ inl e ↦ absurd (off m l (sym ((bytes_eq-Decides _ _).0 e))) | inr e ↦ e ]
+        other m l = grind (arith, bytes_eq-Decides)
 
     pub settle_makes : (j : ℕ) (t : List ℕ) (h : ℕ) → is_running (s.job j).status ≡ true → (1 ≤ h) × (h ≤ 8) → filed s t ≡ 0 →
         vacant_card s ≢ 0 →

@@ -12,11 +12,10 @@ use Rattle.model.specs.Runs.{Picks, World, given, next}
 use Rattle.model.specs.Tables.{checks, effect}
 use Rattle.model.proofs.CallChanges.{Changes, Touched, from_marked, job_changes, nod_change, rows_change}
 use Rattle.model.proofs.CallsByEffect.{effect_of}
-use Rattle.model.proofs.Colours.{free_white, grey_is}
+use Rattle.model.proofs.Colours.{free_white, grey_is, phase_is}
 use Rattle.model.proofs.Granted.{Passed, next_cases}
 use Rattle.model.proofs.GreyingKeeps.{marked_in}
 use Rattle.model.proofs.Invariant.{Inv, Marked, Sound, Spared}
-use Rattle.model.proofs.PhaseCases.{phase_is}
 use Rattle.model.proofs.SlotsAreLastPut.{new_edge, write_count}
 use Rattle.model.proofs.StepsKeep.{phase_scanned, repeat_end, trace_on_cases}
 use Rattle.model.proofs.SweepVisit.{standing_was}

@@ -1,4 +1,4 @@
--- Laws of tables, slot lists, searches and texts.
+-- Laws of tables, slot lists and searches.
 use Rattle.std.proofs.Common.{◌≡◌, ℕ, zero, suc, ◌+◌, ◌<◌, ◌≤◌, Bool, true, false, ◌≢◌, List, length, replicate, refl, arith, length-set, get_or-set_other, get_or-set_same}
 use Rattle.model.specs.Machine.{at, first, next_vacant, put, upd}
 

@@ -1,6 +1,6 @@
 -- A new record in a cell that was free keeps the invariant, unnamed or filed on a card.
 use Rattle.std.proofs.Common.{◌≡◌, ℕ, zero, suc, ◌<◌, ◌≤◌, true, false, ◌≢◌, ◌⊎◌, List, replicate, sym, refl, ap, ◌∙◌, subst, inl, inr, suc-ne-zero, arith, Option, Some, None}
-use lib.ListN.{length-replicate}
+use Rattle.std.proofs.lemmas.List.{length-replicate}
 use Rattle.std.proofs.lemmas.Bool.{cases_eq}
 use Rattle.model.specs.declared.Colour.TheVariants.{White}
 use Rattle.model.specs.declared.Phase.{Phase}

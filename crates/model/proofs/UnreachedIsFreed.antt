@@ -8,10 +8,9 @@ use Rattle.model.specs.Calls.{Call, begin, step}
 use Rattle.model.specs.Machine.{Cell, at, colour, first, hand, slots}
 use Rattle.model.specs.Runs.{Commits, Granted, Later, Picks, Run, Through, Unreached, World, more, next, now}
 use Rattle.model.proofs.CallChanges.{Touched, from_marked, in_hand, in_slot}
-use Rattle.model.proofs.Colours.{marked_used}
+use Rattle.model.proofs.Colours.{marked_used, phase_is}
 use Rattle.model.proofs.Granted.{granted_next, next_cases}
 use Rattle.model.proofs.Invariant.{Keeps, Kept, Marked, Sound}
-use Rattle.model.proofs.PhaseCases.{phase_is}
 use Rattle.model.proofs.RunsKeep.{next_sound, run_sound, through_sound}
 use Rattle.model.proofs.StepChanges.{next_changes, next_count, next_edge, next_place, step_book}
 
@@ -69,7 +68,7 @@ module _ (x : World) (c : Call) (pick : ℕ) (right : Picks x.state pick) (inv :
   }
     where
       nz : (d : ℕ) → Marked (colour (y.state.cell d)) → d ≢ 0
-      nz d l z = marked_used (y.state.cell d) l (ap (λ (m : ℕ). colour (y.state.cell m)) z ∙ inv'.heap.no_zero)
+      nz d l = grind (arith, marked_used, inv')
 
       touched : (d : ℕ) → d ≢ 0 → (r : ℕ) → y.place r ≡ d → x.place r ≡ d → Leads y.book r t →
           Marked (colour (x.state.cell d)) ⊎ Touched x.state y.state d → ⊥
@@ -79,7 +78,7 @@ module _ (x : World) (c : Call) (pick : ℕ) (right : Picks x.state pick) (inv :
           (subst (λ (v : ℕ). Leads y.book v t) same_record ld))
         where
           same_record : r ≡ y.book.holds j h
-          same_record = inv'.recs.one_place r _ (e ∙ sym q ∙ (inv'.hands j h).is) (λ z. n (sym e ∙ z))
+          same_record = grind (arith, inv')
       touched d n r e o ld (inr (in_slot j g i m q)) =
           far (from_hand j g (λ z. m (at_g ∙ ap x.place z ∙ inv.recs.none_at))
           (via_slot (x.book.holds j g) i d r from_slot o n (leads_back ld)))
@@ -104,10 +103,7 @@ module _ (x : World) (c : Call) (pick : ℕ) (right : Picks x.state pick) (inv :
           wz = grind arith
 
           from_slot : r ≡ x.book.slot u i
-          from_slot = slot_record u i d r (λ z. wz (sym at_u ∙ z))
-              (subst (λ (v : ℕ). Keeps x.state v) (sym at_u)
-              (marked_kept x.state.phase x.state.cursor w (x.state.cell w) l))
-              (ap (λ (v : ℕ). at (slots (x.state.cell v)) i) at_u ∙ q) o n
+          from_slot = grind (arith, slot_record, marked_kept)
 
       by_age : (d : ℕ) → Marked (colour (y.state.cell d)) → (r : ℕ) → y.place r ≡ d → Leads y.book r t →
           (x.book.count < r) ⊎ (r ≤ x.book.count) → ⊥

@@ -17,7 +17,6 @@ use Rattle.model.proofs.Colours.{white_is}
 use Rattle.model.proofs.GreyingKeeps.{Greyer, Repeats, grey_one, none_greyer, stays, turns, unused_greyer}
 use Rattle.model.proofs.Invariant.{Inv}
 use Rattle.model.proofs.JobRowsKeep.{nod_greys}
-use Rattle.model.proofs.PhaseCases.{tracing_cases}
 use Rattle.model.proofs.SlotWriteKeeps.{slot_same_colour}
 use Rattle.model.proofs.TableLaws.{upd_elim}
 
@@ -91,10 +90,7 @@ steady_trans {s} {s1} {s2} a b = record {
   where
     go : s.phase ≡ Tracing → s2.phase ≡ Repeat → (s1.phase ≡ Tracing) ⊎ (s1.phase ≡ Repeat) →
         total s2.cell s.size < total s.cell s.size
-    go e q (inl m) = let u = subst (λ (n : ℕ). total s2.cell n < total s1.cell n) a.size_is (b.falls m q) in let v =
-        total_le s.cell s1.cell s.size (a.lighter (subst (λ (p : Phase). T (is_tracing p)) (sym e) tt)) in omega arith
-    go e q (inr m) = let u = a.falls e m in let v = total_le s1.cell s2.cell s.size
-        (b.lighter (subst (λ (p : Phase). T (is_tracing p)) (sym m) tt)) in omega arith
+    go e q h = grind (arith, total_le)
 
 -- cells grow no heavier, and the phase stays
 steady_cells : (s s' : State) → s'.size ≡ s.size → s'.rounds ≡ s.rounds → s'.cursor ≡ s.cursor → s'.phase ≡ s.phase →
@@ -120,7 +116,7 @@ steady_slot s c i v = grind (arith, steady_cells, slot_same_colour)
 
 steady_taken : (s : State) (pick k w : ℕ) → Steady s (taken s pick k w)
 unfolding taken
-steady_taken s pick k w = grind (arith, steady_cells, upd_elim, tracing_cases)
+steady_taken s pick k w = grind (arith, steady_cells, upd_elim)
 
 pub steady_nod : (s : State) (j : ℕ) → Steady s (nodded s j)
 unfolding nodded
