@@ -99,9 +99,6 @@ module _ (x : World) (c : Call) (pick : ℕ) (right : Picks x.state pick) (inv :
           at_u : x.place u ≡ w
           at_u = own.1
 
-          wz : w ≢ 0
-          wz = grind arith
-
           from_slot : r ≡ x.book.slot u i
           from_slot = grind (arith, slot_record, marked_kept)
 
