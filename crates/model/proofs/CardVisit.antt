@@ -53,4 +53,4 @@ clean_keeps s b place inv e z = record {
 
     inv_distinct : (k m : ℕ) → (c ≡ k) ⊎ (c ≡ k → ⊥) → (c ≡ m) ⊎ (c ≡ m → ⊥) → Live f p (upd s.card c C k) →
         Live f p (upd s.card c C m) → (upd s.card c C k).spelling ≡ (upd s.card c C m).spelling → k ≡ m
-    inv_distinct k m h d h' h'' h''' = grind arith
+    inv_distinct k m a d live live' same = grind arith

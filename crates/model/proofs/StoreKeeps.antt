@@ -15,11 +15,11 @@ use Rattle.model.proofs.SlotWriteKeeps.{slot_keeps}
 
 -- in the phases of marking every job is armed, and one that still owes a nod greys what it writes
 marking_armed : (p : Phase) (armed owes : Bool) → Marking p → Flags p armed owes → armed ≡ true
-marking_armed p armed owes h h' = grind arith
+marking_armed p armed owes m g = grind arith
 
 marking_new : (p : Phase) (armed owes : Bool) → Marking p → Flags p armed owes →
     (owes ≡ false) ⊎ ((armed && store_greys_new p) ≡ true)
-marking_new p armed owes h h' = grind arith
+marking_new p armed owes m g = grind arith
 
 -- the barrier of a store by job j into slot i of what its hand g holds, of what its hand h holds
 module _ (s : State) (b : Book) (place : ℕ → ℕ) (inv : Inv s b place) (j g i h : ℕ) (run : is_running (s.job j).status ≡ true)
