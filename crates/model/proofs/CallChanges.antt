@@ -1,9 +1,7 @@
 -- What a call may change of kept records, names and marks: nothing becomes kept that was not; names stay on file but at
 -- the commit; and whatever becomes marked is held, or a held record or a marked one leads to it.
-use Rattle.std.proofs.Common.{◌≡◌, ℕ, zero, suc, ◌≤◌, Bool, true, false, not, T, ◌≢◌, ◌⊎◌, List, length, sym, refl, ap, ◌∙◌, subst, inl, inr, arith, eq-eqb}
-use mathlib.Core.Option.{none, some}
+use Rattle.std.proofs.Common.{◌≡◌, ℕ, zero, suc, ◌≤◌, Bool, true, false, not, ◌≢◌, ◌⊎◌, List, length, sym, refl, ap, ◌∙◌, subst, inl, inr, arith, eq-eqb, None}
 use Rattle.std.proofs.lemmas.Bool.{cond_both}
-use Rattle.model.specs.declared.Colour.TheVariants.{White}
 use Rattle.model.specs.declared.Phase.TheVariants.{Cleaning, Scanning, Tracing}
 use Rattle.model.specs.Book.{Book}
 use Rattle.model.specs.Calls.{Action, Call, Spelling, by, settle, step, text}
@@ -17,7 +15,7 @@ use Rattle.model.proofs.CardsRead.{empty_dead}
 use Rattle.model.proofs.Colours.{kept_colour}
 use Rattle.model.proofs.Granted.{Passed, hand_range, not_zero, or_second}
 use Rattle.model.proofs.GreyingKeeps.{Greys, grey_live, grey_unkeep, marked_in}
-use Rattle.model.proofs.Invariant.{Inv, Keeps, Kept, Live, LiveCard, Marked}
+use Rattle.model.proofs.Invariant.{Inv, Keeps, Live, LiveCard, Marked}
 use Rattle.model.proofs.JobRowsKeep.{nod_greys}
 use Rattle.model.proofs.NamesKeep.{finds_greying}
 use Rattle.model.proofs.SlotWriteKeeps.{slot_same_colour}
@@ -42,26 +40,18 @@ pub record Commit (c : Call) (s s' : State) : Type 0 where
   pub cards : (k : ℕ) → s'.card k ≡ s.card k
 
 pub record Changes (c : Call) (s s' : State) : Type 0 where
-  pub back : (d : ℕ) → Keeps s' d → Keeps s d ⊎ (colour (s.cell d) ≡ none)
+  pub back : (d : ℕ) → Keeps s' d → Keeps s d ⊎ (colour (s.cell d) ≡ None)
   pub names : SameNames s s' ⊎ Commit c s s'
   pub marks : (d : ℕ) → Marked (colour (s'.cell d)) → Marked (colour (s.cell d)) ⊎ Touched s s' d
 
 -- only the jobs' rows change
 pub rows_change : (c : Call) (s : State) (rows : ℕ → Job) (l : ℕ) → Changes c s (with_jobs s rows l)
-rows_change c s rows l = record { back = λ d k. inl k; names = inl (λ k h. (h, refl)); marks = λ d h. inl h }
+rows_change c s rows l = grind arith
 
 -- records were greyed, each for a reason
 grey_change : (c : Call) (s s' : State) → Greys s.cell s'.cell s.phase s'.phase s.cursor → s'.cursor ≡ s.cursor →
     s'.card ≡ s.card → ((d : ℕ) → Marked (colour (s'.cell d)) → Marked (colour (s.cell d)) ⊎ Touched s s' d) → Changes c s s'
-grey_change c s s' gr cur card marks = record {
-  back = λ d k. inl (grey_unkeep gr d (subst (λ (n : ℕ). Kept s'.phase n d (s'.cell d)) cur k));
-  names = inl (λ k l. (
-    subst (λ (f : ℕ → Card). Live s'.cell s'.phase (f k)) (sym card) (grey_live gr (s.card k) l),
-    ap
-        (λ (f : ℕ → Card). (f k).spelling) card,
-  ));
-  marks = marks;
-}
+grey_change c s s' gr cur card marks = grind arith
 
 module _ (s : State) (b : Book) (place : ℕ → ℕ) (inv : Inv s b place) where
   pub nod_change : (c : Call) (j : ℕ) → Changes c s (nodded s j)
@@ -94,36 +84,26 @@ module _ (s : State) (b : Book) (place : ℕ → ℕ) (inv : Inv s b place) wher
       go d (inr e) = inr (in_hand j h (filled (grey_if t s v) j h v refl rng ∙ e))
 
   -- a new record goes into a hand; live cards stay as they are
-  taken_change : (c : Call) (pick : ℕ) (x : Cell) (card' : ℕ → Card) (l j h : ℕ) → colour (s.cell pick) ≡ none →
+  taken_change : (c : Call) (pick : ℕ) (x : Cell) (card' : ℕ → Card) (l j h : ℕ) → colour (s.cell pick) ≡ None →
       (1 ≤ h) × (h ≤ 8) →
       ((k : ℕ) → LiveCard s k → card' k ≡ s.card k) →
       Changes c s (set_hand (with_cards (with_cells s (upd s.cell pick x)) card' l) j h pick)
   taken_change c pick x card' l j h vac rng stay = record {
-    back = λ d. upd_elim (λ y. Kept s.phase s.cursor d y → Keeps s d ⊎ (colour (s.cell d) ≡ none)) s.cell pick d x
-        (λ e u. inr (ap (λ (m : ℕ). colour (s.cell m)) (sym e) ∙ vac)) (λ e u. inl u);
-    names = inl (λ k v. subst (λ (y : Card). Live (upd s.cell pick x) s.phase y × (y.spelling ≡ (s.card k).spelling))
-        (sym (stay k v)) (alive k v, refl));
+    back = grind arith;
+    names = grind arith;
     marks = λ d. upd_elim (λ y. Marked (colour y) →
         Marked (colour (s.cell d)) ⊎ Touched s (set_hand (with_cards (with_cells s (upd s.cell pick x)) card' l) j h pick) d)
         s.cell pick d x
         (λ e u. inr (in_hand j h (filled (with_cards (with_cells s (upd s.cell pick x)) card' l) j h pick refl rng ∙ e)))
         (λ e u. inl u);
   }
-    where
-      alive : (k : ℕ) → LiveCard s k → Live (upd s.cell pick x) s.phase (s.card k)
-      alive k v = record {
-        filled = v.filled;
-        not_white = λ e. subst (λ (y : Cell). colour y ≢ some White)
-            (sym (upd_other s.cell pick (s.card k).record_at x
-            (λ q. (inv.cards.live k v).0.in_use (ap (λ (m : ℕ). colour (s.cell m)) (sym q) ∙ vac)))) (v.not_white e);
-      }
 
-  make_change : (c : Call) (pick j h w : ℕ) → colour (s.cell pick) ≡ none → (1 ≤ h) × (h ≤ 8) →
+  make_change : (c : Call) (pick j h w : ℕ) → colour (s.cell pick) ≡ None → (1 ≤ h) × (h ≤ 8) →
       Changes c s (set_hand (taken s pick 0 w) j h pick)
   unfolding taken
   make_change c pick j h w vac rng = taken_change c pick _ s.card s.last_card j h vac rng (λ k v. refl)
 
-  settle_change : (c : Call) (pick j h w : ℕ) (t : List ℕ) → colour (s.cell pick) ≡ none → (1 ≤ h) × (h ≤ 8) →
+  settle_change : (c : Call) (pick j h w : ℕ) (t : List ℕ) → colour (s.cell pick) ≡ None → (1 ≤ h) × (h ≤ 8) →
       vacant_card s ≢ 0 → Changes c s (set_hand (filed_on (taken s pick (vacant_card s) w) (vacant_card s) t pick) j h pick)
   unfolding taken filed_on
   settle_change c pick j h w t vac rng vacancy = taken_change c pick _ _ (vacant_card s) j h vac rng
@@ -158,10 +138,10 @@ module _ (s : State) (b : Book) (place : ℕ → ℕ) (inv : Inv s b place) wher
       gr2 = greys2 s b place inv j g i h run nz
 
       same_colour : (d : ℕ) → colour (s3.cell d) ≡ colour (s2.cell d)
-      same_colour d = slot_same_colour s2.cell (hand s j g) i (hand s j h) d
+      same_colour d = grind (arith, slot_same_colour)
 
       slot_live : (x : Card) → Live s2.cell s2.phase x → Live s3.cell s3.phase x
-      slot_live x l = record { filled = l.filled; not_white = λ q w. l.not_white q (sym (same_colour x.record_at) ∙ w) }
+      slot_live x l = grind (arith, filled, same_colour)
 
       first : (d : ℕ) → Marked (colour (s.cell d)) ⊎ (at (slots (held s j g)) i ≡ d) →
           Marked (colour (s.cell d)) ⊎ Touched s s3 d
@@ -181,7 +161,7 @@ module _ (s : State) (b : Book) (place : ℕ → ℕ) (inv : Inv s b place) wher
         off z = ap not (eq-eqb _ 0 z)
 
         go : (k : ℕ) → filed s (text name) ≡ k → Changes (by j (settle name h w)) s (settle_on k s j (text name) h w pick).after
-        go zero q = settle_change _ pick j h w (text name) (right (subst T (sym (or_second _ _ (off q) cell)) tt)).vacant
+        go zero q = settle_change _ pick j h w (text name) (right (or_second _ _ (off q) cell)).vacant
             (hand_range h hs) (not_zero _ (or_second _ _ (off q) card))
         go (suc k) q = found_change _ j h _ (hand_range h hs)
 
@@ -190,7 +170,7 @@ module _ (s : State) (b : Book) (place : ℕ → ℕ) (inv : Inv s b place) wher
     job_changes j a p (rows_alone rows e) = subst (λ (x : State). Changes (by j a) s x) (sym e)
         (rows_change _ s rows s.last_job)
     job_changes j a p nods = nod_change _ j
-    job_changes j a p (makes h w) = make_change _ pick j h w (right (subst T (sym p.1.1.1.0) tt)).vacant
+    job_changes j a p (makes h w) = make_change _ pick j h w (right p.1.1.1.0).vacant
         (hand_range h p.0)
     job_changes j a p (settles_name name h w) = settle_changes j name h w p
     job_changes j a p (finds name h) = found_change _ j h _ (hand_range h p.1.0)

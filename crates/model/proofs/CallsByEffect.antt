@@ -1,6 +1,6 @@
 -- The calls of a job by what they change: most touch only the jobs' rows.
 use Rattle.std.proofs.Common.{◌≡◌, ℕ, refl}
-use Rattle.model.specs.Calls.{Action, Spelling, close, copy, drop_hand, find, follow, load, make, nod, park, same, settle, spelling_of, store, wake}
+use Rattle.model.specs.Calls.{Action, Spelling, find, make, nod, same, settle, spelling_of, store}
 use Rattle.model.specs.Machine.{Job, State, with_jobs}
 use Rattle.model.specs.Tables.{job_effect}
 
@@ -13,17 +13,11 @@ pub data Effect (s : State) (j pick : ℕ) : Action → Type 0 where
   stores : (g i h : ℕ) → Effect s j pick (store g i h)
 
 pub effect_of : (s : State) (j pick : ℕ) (a : Action) → Effect s j pick a
-effect_of s j pick close = rows_alone _ refl
-effect_of s j pick park = rows_alone _ refl
-effect_of s j pick wake = rows_alone _ refl
 effect_of s j pick nod = nods
 effect_of s j pick (make h w) = makes h w
 effect_of s j pick (settle name h w) = settles_name name h w
 effect_of s j pick (find name h) = finds name h
-effect_of s j pick (load g i h) = rows_alone _ refl
 effect_of s j pick (store g i h) = stores g i h
-effect_of s j pick (copy g h) = rows_alone _ refl
-effect_of s j pick (drop_hand h) = rows_alone _ refl
 effect_of s j pick (same g h) = rows_alone s.job refl
-effect_of s j pick (follow g path h) = rows_alone _ refl
 effect_of s j pick (spelling_of h n) = rows_alone s.job refl
+effect_of s j pick _ = rows_alone _ refl

@@ -1,77 +1,40 @@
--- Colours and the tests on them.
-use Rattle.std.proofs.Common.{◌≡◌, ℕ, true, false, ◌≢◌, ◌⊎◌, sym, refl, ◌∙◌, inl, inr, arith}
-use mathlib.Core.Option.{Option, none, some}
+-- Colours and phases, and the tests on them.
+use Rattle.std.proofs.Common.{◌≡◌, ℕ, true, false, ◌≢◌, ◌⊎◌, Option, Some, None, arith}
 use Rattle.model.specs.declared.Colour.{Colour}
 use Rattle.model.specs.declared.Colour.TheVariants.{Black, Grey, White}
 use Rattle.model.specs.declared.Phase.{Phase}
-use Rattle.model.specs.Machine.{Cell, at, colour, free, is_free, is_grey, is_white, slots, used}
+use Rattle.model.specs.Machine.{Cell, at, colour, in_phase, is_free, is_grey, is_white, slots}
 use Rattle.model.proofs.Invariant.{Kept, Marked}
-use Rattle.model.proofs.TableLaws.{at_nil}
 
--- constructors that differ: `cc` finds the clash
-pub clash : {A : Type 0} → ◌≡◌ {A = ℕ} 0 1 → A
-clash e = absurd (omega arith)
+pub free_white : {l : Option Colour} → l ≡ None → l ≡ Some White → ⊥
+free_white a b = cc
 
-pub some_none : (c : Colour) → some c ≢ none
-some_none c e = clash cc
+pub black_or : (l : Option Colour) → (l ≡ Some Black) ⊎ (l ≢ Some Black)
+black_or l = grind arith
 
-pub free_white : {l : Option Colour} → l ≡ none → l ≡ some White → ⊥
-free_white a b = clash cc
+pub free_slots : (x : Cell) → colour x ≡ None → (i : ℕ) → at (slots x) i ≡ 0
+free_slots x e i = grind arith
 
-pub grey_white : {l : Option Colour} → l ≡ some Grey → l ≡ some White → ⊥
-grey_white a b = clash cc
+pub marked_used : (x : Cell) → Marked (colour x) → colour x ≢ None
+marked_used x l = grind arith
 
-pub black_or : (l : Option Colour) → (l ≡ some Black) ⊎ (l ≢ some Black)
-black_or none = inr (λ e. clash cc)
-black_or (some White) = inr (λ e. clash cc)
-black_or (some Grey) = inr (λ e. clash cc)
-black_or (some Black) = inl refl
+pub free_is : (x : Cell) → is_free x ≡ true → colour x ≡ None
+free_is x e = grind arith
 
-pub free_slots : (x : Cell) → colour x ≡ none → (i : ℕ) → at (slots x) i ≡ 0
-free_slots free e i = at_nil i
-free_slots (used c k l) e i = absurd (some_none c e)
+pub white_is : (x : Cell) → is_white x ≡ true → colour x ≡ Some White
+white_is x e = grind arith
 
-pub marked_used : (x : Cell) → Marked (colour x) → colour x ≢ none
-marked_used free l e = absurd l
-marked_used (used c k l) m e = some_none c e
+pub white_not : (x : Cell) → is_white x ≡ false → colour x ≢ Some White
+white_not x e = grind arith
 
-pub free_is : (x : Cell) → is_free x ≡ true → colour x ≡ none
-free_is free e = refl
-free_is (used c k l) e = clash cc
+pub grey_is : (x : Cell) → is_grey x ≡ true → colour x ≡ Some Grey
+grey_is x e = grind arith
 
-pub free_not : (x : Cell) → is_free x ≡ false → colour x ≢ none
-free_not free e = clash cc
-free_not (used c k l) e = some_none c
-
-pub white_is : (x : Cell) → is_white x ≡ true → colour x ≡ some White
-white_is free e = clash cc
-white_is (used White k l) e = refl
-white_is (used Grey k l) e = clash cc
-white_is (used Black k l) e = clash cc
-
-pub white_not : (x : Cell) → is_white x ≡ false → colour x ≢ some White
-white_not free e z = clash cc
-white_not (used White k l) e z = clash cc
-white_not (used Grey k l) e z = clash cc
-white_not (used Black k l) e z = clash cc
-
-pub is_white_at : (x : Cell) → colour x ≡ some White → is_white x ≡ true
-is_white_at free z = clash cc
-is_white_at (used White k l) z = refl
-is_white_at (used Grey k l) z = clash cc
-is_white_at (used Black k l) z = clash cc
-
-pub grey_is : (x : Cell) → is_grey x ≡ true → colour x ≡ some Grey
-grey_is free e = clash cc
-grey_is (used White k l) e = clash cc
-grey_is (used Grey k l) e = refl
-grey_is (used Black k l) e = clash cc
-
-pub grey_not : (x : Cell) → is_grey x ≡ false → colour x ≢ some Grey
-grey_not free e z = clash cc
-grey_not (used White k l) e z = clash cc
-grey_not (used Grey k l) e z = clash cc
-grey_not (used Black k l) e z = clash cc
+pub grey_not : (x : Cell) → is_grey x ≡ false → colour x ≢ Some Grey
+grey_not x e = grind arith
 
 pub kept_colour : (p : Phase) (cur d : ℕ) (x y : Cell) → colour y ≡ colour x → Kept p cur d x → Kept p cur d y
-kept_colour p cur d x y e h = record { in_use = λ z. h.in_use (sym e ∙ z); spared = λ z. h.spared (sym e ∙ z) }
+kept_colour p cur d x y e h = grind arith
+
+pub phase_is : (q p : Phase) → in_phase q p ≡ true → p ≡ q
+phase_is q p e = grind arith

@@ -1,14 +1,12 @@
 -- A call is refused, and nothing changes, or all its conditions hold and it is granted: every argument about calls
 -- starts here.
-use Rattle.std.proofs.Common.{◌≡◌, ℕ, ◌≤◌, Bool, true, false, not, ◌||◌, eqb, leb, ◌≢◌, List, [], ◌∷◌, length, Ok, Err, Result, refl, leb-true}
-use borrow.Author.Tests.{eqb-false, not-true}
-use Rattle.std.proofs.lemmas.Bool.{and_parts, cond_both}
+use Rattle.std.proofs.Common.{◌≡◌, ℕ, ◌≤◌, Bool, true, false, not, ◌||◌, eqb, ◌≢◌, List, [], ◌∷◌, length, Ok, Err, Result, refl, is_ok, arith}
+use Rattle.std.proofs.lemmas.Bool.{cond_both}
 use Rattle.refusal.specs.declared.Refusal.{Refusal}
-use Rattle.model.specs.Calls.{Call, Check, Grant, decide, is_granted}
+use Rattle.model.specs.Calls.{Call, Check, Grant, decide}
 use Rattle.model.specs.Machine.{Cell, slots}
 use Rattle.model.specs.Runs.{Granted, World, granted, next, next_by}
 use Rattle.model.specs.Tables.{checks, effect, hand_ok, met, outcome, slot_ok}
-use Rattle.model.proofs.Colours.{clash}
 
 abbrev pub Passed : List Check → Type 0
 Passed [] = Unit {0}
@@ -24,28 +22,25 @@ decided P (c ∷ cs) g refused met = cond_both c.holds (decide cs g) (Err c.othe
 pub next_cases : (x : World) (c : Call) (pick : ℕ) (P : World → Type 0) → P x →
     (Passed (checks x.state c) → P (granted x c pick (effect x.state c pick))) → P (next x c pick)
 unfolding next outcome
-next_cases x c pick P refused met = decided (λ o. P (next_by x c pick o)) (checks x.state c) (effect x.state c pick)
-    (λ e. refused) met
+next_cases x c pick P refused met = grind arith
 
 -- a call that was granted met its conditions, and the world after it is that of its effect
 pub granted_next : (x : World) (c : Call) (pick : ℕ) → Granted x c pick →
     Passed (checks x.state c) × (next x c pick ≡ granted x c pick (effect x.state c pick))
 unfolding next outcome
-granted_next x c pick = decided (λ o. is_granted o ≡ true →
+granted_next x c pick = decided (λ o. is_ok o ≡ true →
     Passed (checks x.state c) × (next_by x c pick o ≡ granted x c pick (effect x.state c pick)))
-    (checks x.state c) (effect x.state c pick) (λ e q. clash cc) (λ p q. (p, refl))
+    (checks x.state c) (effect x.state c pick) (λ e q. cc) (λ p q. (p, refl))
 
 -- what the tests of conditions mean
 pub hand_range : (h : ℕ) → hand_ok h ≡ true → (1 ≤ h) × (h ≤ 8)
-hand_range h e = let q = and_parts (leb 1 h) (leb h 8) e in (leb-true 1 h q.0, leb-true h 8 q.1)
+hand_range h e = grind arith
 
 pub slot_range : (x : Cell) (i : ℕ) → slot_ok x i ≡ true → (1 ≤ i) × (i ≤ length (slots x))
-slot_range x i e = let q = and_parts (leb 1 i) (leb i (length (slots x))) e in
-    (leb-true 1 i q.0, leb-true i (length (slots x)) q.1)
+slot_range x i e = grind arith
 
 pub not_zero : (n : ℕ) → not (eqb n 0) ≡ true → n ≢ 0
-not_zero n e = eqb-false n 0 (not-true (eqb n 0) e)
+not_zero n e = grind arith
 
 pub or_second : (a b : Bool) → a ≡ false → (a || b) ≡ true → b ≡ true
-or_second true b e h = clash cc
-or_second false b e h = h
+or_second a b e h = grind arith

@@ -1,21 +1,19 @@
 -- Greying keeps the invariant, whatever spared records become grey.
-use Rattle.std.proofs.Common.{◌≡◌, ℕ, zero, suc, Bool, ◌≢◌, ◌⊎◌, List, [], ◌∷◌, sym, refl, ap, ◌∙◌, subst, inl, inr, arith}
-use mathlib.Core.Option.{Option, none, some}
+use Rattle.std.proofs.Common.{◌≡◌, ℕ, zero, suc, Bool, ◌≢◌, ◌⊎◌, List, [], ◌∷◌, refl, inl, inr, Option, Some, None, arith}
 use Rattle.model.specs.declared.Colour.{Colour}
 use Rattle.model.specs.declared.Colour.TheVariants.{Black, Grey, White}
 use Rattle.model.specs.declared.Phase.{Phase}
 use Rattle.model.specs.declared.Phase.TheVariants.{Cleaning, Repeat, Tracing}
 use Rattle.model.specs.Book.{Book}
 use Rattle.model.specs.Cycle.{grey_all, greyed}
-use Rattle.model.specs.Machine.{Card, Cell, Job, State, at, at_phase, card_of, colour, free, slots, upd, used, with_cells}
+use Rattle.model.specs.Machine.{Card, Cell, Job, State, at, at_phase, card_of, colour, slots, upd, with_cells}
 use Rattle.model.proofs.Carried.{Shrinks, cards_move, job_move, leads_move, protected_map, recs_move}
-use Rattle.model.proofs.Colours.{free_white, grey_white}
-use Rattle.model.proofs.Invariant.{CardsOk, ColourOk, Flags, Greying, HeapOk, Inv, JobOk, Kept, Live, Marked, Marking, Protected, Spared}
+use Rattle.model.proofs.Invariant.{CardsOk, ColourOk, Flags, HeapOk, Inv, JobOk, Kept, Live, Marked, Marking, Protected, Spared}
 use Rattle.model.proofs.TableLaws.{upd_elim}
 
 -- a colour stays, or turns from white to grey
 abbrev pub Turn : Option Colour → Option Colour → Type 0
-Turn a b = (b ≡ a) ⊎ ((a ≡ some White) × (b ≡ some Grey))
+Turn a b = (b ≡ a) ⊎ ((a ≡ Some White) × (b ≡ Some Grey))
 
 -- a cell before and after: the same record, perhaps turned from white to grey
 pub record Greyer (x y : Cell) : Type 0 where
@@ -24,33 +22,16 @@ pub record Greyer (x y : Cell) : Type 0 where
   pub how : Turn (colour x) (colour y)
 
 pub greyer_refl : (x : Cell) → Greyer x x
-greyer_refl x = record { same_slots = refl; same_card = refl; how = inl refl }
+greyer_refl x = grind arith
 
 greyer_trans : {x y z : Cell} → Greyer x y → Greyer y z → Greyer x z
-greyer_trans {x} {y} {z} a b = record {
-  same_slots = b.same_slots ∙ a.same_slots;
-  same_card = b.same_card ∙ a.same_card;
-  how = go a.how b.how;
-}
-  where
-    go : Turn (colour x) (colour y) → Turn (colour y) (colour z) → Turn (colour x) (colour z)
-    go (inl p) (inl q) = inl (q ∙ p)
-    go (inl p) (inr q) = inr (sym p ∙ q.0, q.1)
-    go (inr p) (inl q) = inr (p.0, q ∙ p.1)
-    go (inr p) (inr q) = inr (p.0, q.1)
-
-pub greyer_greyed : (x : Cell) → Greyer x (greyed x)
-greyer_greyed free = greyer_refl free
-greyer_greyed (used White k l) = record { same_slots = refl; same_card = refl; how = inr (refl, refl) }
-greyer_greyed (used Grey k l) = greyer_refl _
-greyer_greyed (used Black k l) = greyer_refl _
+greyer_trans a b = grind arith
 
 abbrev pub AllGreyer : (ℕ → Cell) → (ℕ → Cell) → Type 0
 AllGreyer f g = (d : ℕ) → Greyer (f d) (g d)
 
 pub grey_one : (f : ℕ → Cell) (c : ℕ) → AllGreyer f (upd f c (greyed (f c)))
-grey_one f c d = upd_elim (λ y. Greyer (f d) y) f c d (greyed (f c))
-    (λ e. subst (λ (m : ℕ). Greyer (f m) (greyed (f c))) e (greyer_greyed (f c))) (λ n. greyer_refl (f d))
+grey_one f c = grind arith
 
 pub grey_list : (f : ℕ → Cell) (l : List ℕ) → AllGreyer f (grey_all f l)
 unfolding grey_all
@@ -58,64 +39,31 @@ grey_list f [] d = greyer_refl (f d)
 grey_list f (v ∷ vs) d = greyer_trans (grey_one f v d) (grey_list (upd f v (greyed (f v))) vs d)
 
 pub marked_greyer : {x y : Cell} → Greyer x y → Marked (colour x) → Marked (colour y)
-marked_greyer {x} {y} a l = go a.how
-  where
-    go : Turn (colour x) (colour y) → Marked (colour y)
-    go (inl e) = subst Marked (sym e) l
-    go (inr e) = subst Marked (sym e.1) tt
+marked_greyer a l = grind arith
 
-pub used_greyer : {x y : Cell} → Greyer x y → colour x ≢ none → colour y ≢ none
-used_greyer {x} {y} a n v = go a.how
-  where
-    go : Turn (colour x) (colour y) → ⊥
-    go (inl e) = n (sym e ∙ v)
-    go (inr e) = let z : ◌≡◌ {A = ℕ} 0 1 = cc in omega arith
+pub used_greyer : {x y : Cell} → Greyer x y → colour x ≢ None → colour y ≢ None
+used_greyer a n = grind arith
 
-pub unused_greyer : {x y : Cell} → Greyer x y → colour y ≢ none → colour x ≢ none
-unused_greyer {x} {y} a n v = go a.how
-  where
-    go : Turn (colour x) (colour y) → ⊥
-    go (inl e) = n (e ∙ v)
-    go (inr e) = let z : ◌≡◌ {A = ℕ} 0 1 = cc in omega arith
+pub unused_greyer : {x y : Cell} → Greyer x y → colour y ≢ None → colour x ≢ None
+unused_greyer a n = grind arith
 
-black_greyer : {x y : Cell} → Greyer x y → colour y ≡ some Black → colour x ≡ some Black
-black_greyer {x} {y} a v = go a.how
-  where
-    go : Turn (colour x) (colour y) → colour x ≡ some Black
-    go (inl e) = sym e ∙ v
-    go (inr e) = cc
+black_greyer : {x y : Cell} → Greyer x y → colour y ≡ Some Black → colour x ≡ Some Black
+black_greyer a v = grind arith
 
-pub none_greyer : {x y : Cell} → Greyer x y → colour x ≡ none → colour y ≡ none
-none_greyer {x} {y} a v = go a.how
-  where
-    go : Turn (colour x) (colour y) → colour y ≡ none
-    go (inl e) = e ∙ v
-    go (inr e) = absurd (free_white v e.0)
+pub none_greyer : {x y : Cell} → Greyer x y → colour x ≡ None → colour y ≡ None
+none_greyer a v = grind arith
 
--- after greying, a used cell is grey or black
-marked_greyed : (x : Cell) → colour x ≢ none → Marked (colour (greyed x))
-marked_greyed free n = absurd (n refl)
-marked_greyed (used White k l) n = tt
-marked_greyed (used Grey k l) n = tt
-marked_greyed (used Black k l) n = tt
+pub marked_one : (f : ℕ → Cell) (c : ℕ) → colour (f c) ≢ None → Marked (colour (upd f c (greyed (f c)) c))
+marked_one f c n = grind arith
 
-pub greyed_grey : (x : Cell) → colour x ≡ some White → colour (greyed x) ≡ some Grey
-greyed_grey free e = cc
-greyed_grey (used White k l) e = refl
-greyed_grey (used Grey k l) e = refl
-greyed_grey (used Black k l) e = cc
-
-pub marked_one : (f : ℕ → Cell) (c : ℕ) → colour (f c) ≢ none → Marked (colour (upd f c (greyed (f c)) c))
-marked_one f c n = upd_elim (λ y. Marked (colour y)) f c c (greyed (f c)) (λ e. marked_greyed (f c) n) (λ q. absurd (q refl))
-
-pub marked_list : (f : ℕ → Cell) (l : List ℕ) (i : ℕ) → at l i ≢ 0 → colour (f (at l i)) ≢ none →
+pub marked_list : (f : ℕ → Cell) (l : List ℕ) (i : ℕ) → at l i ≢ 0 → colour (f (at l i)) ≢ None →
     Marked (colour (grey_all f l (at l i)))
 unfolding grey_all
 marked_list f [] zero h n = absurd (h refl)
 marked_list f [] (suc i) h n = absurd (h refl)
 marked_list f (v ∷ vs) zero h n = absurd (h refl)
 marked_list f (v ∷ vs) (suc zero) h n = marked_greyer (grey_list (upd f v (greyed (f v))) vs v) (marked_one f v n)
-marked_list f (v ∷ vs) (suc (suc i)) h n = marked_list (upd f v (greyed (f v))) vs (suc i) h (used_greyer (grey_one f v _) n)
+marked_list f (v ∷ vs) (suc (suc i)) h n = grind (arith, marked_list (upd f v (greyed (f v))) vs (suc i))
 
 -- what is grey or black after greying a list was so, or stands in the list
 pub marked_in : (f : ℕ → Cell) (l : List ℕ) (d : ℕ) → Marked (colour (grey_all f l d)) →
@@ -142,119 +90,52 @@ pub data Repeats : Phase → Phase → Type 0 where
   stays : {p : Phase} → Repeats p p
   turns : Repeats Tracing Repeat
 
-repeats_spared : {p q : Phase} (cur d : ℕ) → Repeats p q → Spared p cur d → Spared q cur d
-repeats_spared cur d stays s = s
-repeats_spared cur d turns s = tt
-
-repeats_unspared : {p q : Phase} (cur d : ℕ) → Repeats p q → Spared q cur d → Spared p cur d
-repeats_unspared cur d stays s = s
-repeats_unspared cur d turns s = tt
-
 pub repeats_marking : {p q : Phase} → Repeats p q → Marking q → Marking p
-repeats_marking stays t = t
-repeats_marking turns t = tt
-
-pub repeats_greying : {p q : Phase} → Repeats p q → Greying p → Greying q
-repeats_greying stays t = t
-repeats_greying turns t = tt
+repeats_marking h t = grind arith
 
 repeats_flags : {p q : Phase} (a o : Bool) → Repeats p q → Flags p a o → Flags q a o
-repeats_flags a o stays t = t
-repeats_flags a o turns t = t
-
-repeats_cleaning : {p q : Phase} → Repeats p q → p ≡ Cleaning → q ≡ Cleaning
-repeats_cleaning stays e = e
-repeats_cleaning turns e = cc
+repeats_flags a o h t = grind arith
 
 repeats_uncleaning : {p q : Phase} → Repeats p q → q ≡ Cleaning → p ≡ Cleaning
-repeats_uncleaning stays e = e
-repeats_uncleaning turns e = cc
+repeats_uncleaning h e = grind arith
 
 -- cells and phase before and after some records were greyed: only spared ones
 pub record Greys (f g : ℕ → Cell) (p q : Phase) (cur : ℕ) : Type 0 where
   pub greyer : AllGreyer f g
   pub repeats : Repeats p q
-  pub spare : (d : ℕ) → colour (f d) ≡ some White → colour (g d) ≡ some Grey → Spared p cur d
+  pub spare : (d : ℕ) → colour (f d) ≡ Some White → colour (g d) ≡ Some Grey → Spared p cur d
   pub colours : ((d : ℕ) → ColourOk p cur d (colour (f d))) → (d : ℕ) → ColourOk q cur d (colour (g d))
 
 pub greys_refl : (f : ℕ → Cell) (p : Phase) (cur : ℕ) → Greys f f p p cur
-greys_refl f p cur = record {
-  greyer = λ d. greyer_refl (f d);
-  repeats = stays;
-  spare = λ d a b. absurd (grey_white b a);
-  colours = λ h. h;
-}
+greys_refl f p cur = record { greyer = grind arith; repeats = stays; spare = grind arith; colours = λ h. h }
 
 module _ {f g : ℕ → Cell} {p q : Phase} {cur : ℕ} (gr : Greys f g p q cur) where
   pub grey_keep : (d : ℕ) → Kept p cur d (f d) → Kept q cur d (g d)
-  grey_keep d k = record { in_use = used_greyer (gr.greyer d) k.in_use; spared = λ e. go e (gr.greyer d).how }
-    where
-      go : colour (g d) ≡ some White → Turn (colour (f d)) (colour (g d)) → Spared q cur d
-      go e (inl h) = repeats_spared cur d gr.repeats (k.spared (sym h ∙ e))
-      go e (inr h) = absurd (grey_white h.1 e)
+  grey_keep d k = grind arith
 
   pub grey_unkeep : (d : ℕ) → Kept q cur d (g d) → Kept p cur d (f d)
-  grey_unkeep d k = record { in_use = unused_greyer (gr.greyer d) k.in_use; spared = λ e. go e (gr.greyer d).how }
-    where
-      go : colour (f d) ≡ some White → Turn (colour (f d)) (colour (g d)) → Spared p cur d
-      go e (inl h) = repeats_unspared cur d gr.repeats (k.spared (h ∙ e))
-      go e (inr h) = gr.spare d e h.1
+  grey_unkeep d k = grind arith
 
   pub grey_live : (x : Card) → Live f p x → Live g q x
-  grey_live x l = record {
-    filled = l.filled;
-    not_white = λ e z. go (l.not_white (repeats_uncleaning gr.repeats e)) z (gr.greyer x.record_at).how;
-  }
-    where
-      go : {a b : Option Colour} → a ≢ some White → b ≡ some White → Turn a b → ⊥
-      go n z (inl h) = n (sym h ∙ z)
-      go n z (inr h) = n h.0
+  grey_live x l = grind arith
 
   grey_unlive : (x : Card) → Live g q x → Live f p x
-  grey_unlive x l = record { filled = l.filled; not_white = λ e z. go e z (gr.greyer x.record_at).how }
-    where
-      go : p ≡ Cleaning → colour (f x.record_at) ≡ some White → Turn (colour (f x.record_at)) (colour (g x.record_at)) →
-          ⊥
-      go e z (inl h) = l.not_white (repeats_cleaning gr.repeats e) (h ∙ z)
-      go e z (inr h) = subst (λ (r : Phase). Spared r cur x.record_at) e (gr.spare x.record_at z h.1)
+  grey_unlive x l = grind arith
 
   grey_protected : {c : ℕ} → Protected f c → Protected g c
-  grey_protected = protected_map f g (λ d l. marked_greyer (gr.greyer d) l)
-      (λ r i n z. inr ((λ e. n (black_greyer (gr.greyer r) e)), ap (λ (l : List ℕ). at l i) (gr.greyer r).same_slots))
+  grey_protected h = grind (arith, protected_map, marked_greyer, black_greyer)
 
   grey_shrinks : Shrinks f g p q cur cur
-  grey_shrinks = record {
-    kept = grey_unkeep;
-    same_slots = λ d k. (gr.greyer d).same_slots;
-    same_card = λ d k. (gr.greyer d).same_card;
-  }
+  grey_shrinks = grind arith
 
   grey_heap : (size : ℕ) → HeapOk size f p cur → HeapOk size g q cur
-  grey_heap size ok = record {
-    no_zero = none_greyer (gr.greyer 0) ok.no_zero;
-    inside = λ c n. ok.inside c (unused_greyer (gr.greyer c) n);
-    colours = gr.colours ok.colours;
-    leads = leads_move grey_shrinks grey_keep ok.leads;
-    protects = λ t c e i. subst (λ (l : List ℕ). at l i ≢ 0 → Protected g (at l i)) (sym (gr.greyer c).same_slots)
-        (λ z. grey_protected (ok.protects (repeats_marking gr.repeats t) c (black_greyer (gr.greyer c) e) i z));
-  }
+  grey_heap size ok = grind (arith, none_greyer, unused_greyer, leads_move, grey_shrinks, grey_keep, grey_protected, repeats_marking, black_greyer)
 
   grey_job : (j : ℕ) (b : Job) → JobOk f p cur j b → JobOk g q cur j b
-  grey_job j b ok = job_move j b grey_keep
-      (λ t w h z. grey_protected (ok.protected (repeats_marking gr.repeats t) w h z))
-      (repeats_flags b.armed b.owes gr.repeats) ok
+  grey_job j b ok = grind (arith, job_move, grey_keep, grey_protected, repeats_marking, repeats_flags)
 
   grey_cards : (card : ℕ → Card) → CardsOk f p cur card → CardsOk g q cur card
-  grey_cards card ok = cards_move grey_shrinks.kept grey_shrinks.same_card (record {
-    unlive = λ k. grey_unlive (card k);
-    lives = λ k l h. grey_keep _ h;
-    clears = λ e k lo hi n z. go _ _ (ok.cleared (repeats_uncleaning gr.repeats e) k lo hi n) z
-        (gr.greyer (card k).record_at).how;
-  }) ok
-    where
-      go : (x y : Option Colour) → x ≢ some White → y ≡ some White → Turn x y → ⊥
-      go x y a z (inl h) = a (sym h ∙ z)
-      go x y a z (inr h) = a h.0
+  grey_cards card ok = grind (arith, cards_move, grey_shrinks, grey_unlive, grey_keep, repeats_uncleaning)
 
 pub greying_keeps : (s : State) (b : Book) (place : ℕ → ℕ) (g : ℕ → Cell) (q : Phase) → Inv s b place →
     Greys s.cell g s.phase q s.cursor → Inv (at_phase (with_cells s g) q s.cursor s.rounds) b place

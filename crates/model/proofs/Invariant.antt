@@ -2,8 +2,7 @@
 -- leaves it as it is.
 -- After the commit the white records are doomed: all of them until the sweep, those not yet swept in SWEEPING. A used
 -- cell that is not doomed is kept. Hands and kept records lead to kept records only.
-use Rattle.std.proofs.Common.{◌≡◌, ℕ, ◌<◌, ◌≤◌, Bool, true, false, T, ◌≢◌, List, [], ◌∷◌, length}
-use mathlib.Core.Option.{Option, none, some}
+use Rattle.std.proofs.Common.{◌≡◌, ℕ, ◌<◌, ◌≤◌, Bool, true, false, T, ◌≢◌, List, [], ◌∷◌, length, Option, Some, None}
 use Rattle.model.specs.declared.Colour.{Colour}
 use Rattle.model.specs.declared.Colour.TheVariants.{Black, Grey, White}
 use Rattle.model.specs.declared.Phase.{Phase}
@@ -15,32 +14,27 @@ use Rattle.model.specs.Runs.{World}
 
 -- whether a white record is spared, that is, not doomed
 abbrev pub Spared : Phase → ℕ → ℕ → Type 0
-Spared Normal cur c = Unit {0}
-Spared Arming cur c = Unit {0}
-Spared Scanning cur c = Unit {0}
-Spared Tracing cur c = Unit {0}
-Spared Repeat cur c = Unit {0}
 Spared Cleaning cur c = ⊥
 Spared Parting cur c = ⊥
 Spared Sweeping cur c = c < cur
+Spared _ cur c = Unit {0}
 
 -- a kept record
 pub record Kept (p : Phase) (cur c : ℕ) (x : Cell) : Type 0 where
-  pub in_use : colour x ≢ none
-  pub spared : colour x ≡ some White → Spared p cur c
+  pub in_use : colour x ≢ None
+  pub spared : colour x ≡ Some White → Spared p cur c
 
 -- a marked record is grey or black
 abbrev pub Marked : Option Colour → Type 0
-Marked none = ⊥
-Marked (some White) = ⊥
-Marked (some Grey) = Unit {0}
-Marked (some Black) = Unit {0}
+Marked (Some Grey) = Unit {0}
+Marked (Some Black) = Unit {0}
+Marked _ = ⊥
 
 -- a protected record will be marked before the commit: it is marked already, or a protected record that is not black
 -- leads to it (the weak tricolour invariant, with grey-protected records)
 pub data Protected (f : ℕ → Cell) : ℕ → Type 0 where
   marked : {c : ℕ} → Marked (colour (f c)) → Protected f c
-  via : {q c : ℕ} (i : ℕ) → Protected f q → colour (f q) ≢ some Black → at (slots (f q)) i ≡ c → c ≢ 0 → Protected f c
+  via : {q c : ℕ} (i : ℕ) → Protected f q → colour (f q) ≢ Some Black → at (slots (f q)) i ≡ c → c ≢ 0 → Protected f c
 
 -- the phases in which hands and black records lead to protected records only
 abbrev pub Marking : Phase → Type 0
@@ -52,14 +46,13 @@ Greying p = T (among (Arming ∷ Scanning ∷ Tracing ∷ Repeat ∷ []) p)
 
 -- which colours a cell may have
 abbrev pub ColourOk : Phase → ℕ → ℕ → Option Colour → Type 0
-ColourOk Normal cur c l = (l ≢ some Grey) × (l ≢ some Black)
-ColourOk Arming cur c l = l ≢ some Black
-ColourOk Scanning cur c l = Unit {0}
-ColourOk Tracing cur c l = c < cur → l ≢ some Grey
-ColourOk Repeat cur c l = Unit {0}
-ColourOk Cleaning cur c l = l ≢ some Grey
-ColourOk Parting cur c l = l ≢ some Grey
-ColourOk Sweeping cur c l = (l ≢ some Grey) × (c < cur → l ≢ some Black)
+ColourOk Normal cur c l = (l ≢ Some Grey) × (l ≢ Some Black)
+ColourOk Arming cur c l = l ≢ Some Black
+ColourOk Tracing cur c l = c < cur → l ≢ Some Grey
+ColourOk Cleaning cur c l = l ≢ Some Grey
+ColourOk Parting cur c l = l ≢ Some Grey
+ColourOk Sweeping cur c l = (l ≢ Some Grey) × (c < cur → l ≢ Some Black)
+ColourOk _ cur c l = Unit {0}
 
 -- which flags an open job may have: armed, and owing a nod
 abbrev pub Flags : Phase → Bool → Bool → Type 0
@@ -74,12 +67,12 @@ Flags Sweeping a o = a ≡ false
 
 -- the heap: cell 0 is none, used cells lie inside, and the tricolour invariant holds
 pub record HeapOk (size : ℕ) (f : ℕ → Cell) (p : Phase) (cur : ℕ) : Type 0 where
-  pub no_zero : colour (f 0) ≡ none
-  pub inside : (c : ℕ) → colour (f c) ≢ none → c ≤ size
+  pub no_zero : colour (f 0) ≡ None
+  pub inside : (c : ℕ) → colour (f c) ≢ None → c ≤ size
   pub colours : (c : ℕ) → ColourOk p cur c (colour (f c))
   pub leads : (c : ℕ) → Kept p cur c (f c) → (i : ℕ) → at (slots (f c)) i ≢ 0 →
       Kept p cur (at (slots (f c)) i) (f (at (slots (f c)) i))
-  pub protects : Marking p → (c : ℕ) → colour (f c) ≡ some Black → (i : ℕ) → at (slots (f c)) i ≢ 0 →
+  pub protects : Marking p → (c : ℕ) → colour (f c) ≡ Some Black → (i : ℕ) → at (slots (f c)) i ≢ 0 →
       Protected f (at (slots (f c)) i)
 
 -- a job's row
@@ -94,7 +87,7 @@ pub record JobOk (f : ℕ → Cell) (p : Phase) (cur : ℕ) (j : ℕ) (b : Job) 
 -- a card that does not read as empty
 pub record Live (f : ℕ → Cell) (p : Phase) (x : Card) : Type 0 where
   pub filled : x.record_at ≢ 0
-  pub not_white : p ≡ Cleaning → colour (f x.record_at) ≢ some White
+  pub not_white : p ≡ Cleaning → colour (f x.record_at) ≢ Some White
 
 -- the cards: a live one holds a kept record that points back to it, a kept record with a card is on it, and live ones
 -- bear different names; in CLEANING those before the cursor are done
@@ -104,7 +97,7 @@ pub record CardsOk (f : ℕ → Cell) (p : Phase) (cur : ℕ) (card : ℕ → Ca
       (card_of (f (card k).record_at) ≡ k) × (1 ≤ k) × (k ≤ 512)
   pub back : (c : ℕ) → Kept p cur c (f c) → card_of (f c) ≢ 0 → (card (card_of (f c))).record_at ≡ c
   pub distinct : (k m : ℕ) → Live f p (card k) → Live f p (card m) → (card k).spelling ≡ (card m).spelling → k ≡ m
-  pub cleared : p ≡ Cleaning → (k : ℕ) → 1 ≤ k → k < cur → (card k).record_at ≢ 0 → colour (f (card k).record_at) ≢ some White
+  pub cleared : p ≡ Cleaning → (k : ℕ) → 1 ≤ k → k < cur → (card k).record_at ≢ 0 → colour (f (card k).record_at) ≢ Some White
 
 -- a number of the store stands for a record of the book, or both for none
 pub record StandsFor (place : ℕ → ℕ) (r v : ℕ) : Type 0 where
@@ -128,8 +121,8 @@ pub record RecsOk (f : ℕ → Cell) (p : Phase) (cur : ℕ) (card : ℕ → Car
   pub unmade : (r : ℕ) → count < r → place r ≡ 0
   pub unmade_slots : (r i : ℕ) → count < r → slot r i ≡ 0
   pub one_place : (r t : ℕ) → place r ≡ place t → place r ≢ 0 → r ≡ t
-  pub stands : (r : ℕ) → place r ≢ 0 → colour (f (place r)) ≢ none
-  pub owner : (c : ℕ) → colour (f c) ≢ none → (r : ℕ) × (place r ≡ c)
+  pub stands : (r : ℕ) → place r ≢ 0 → colour (f (place r)) ≢ None
+  pub owner : (c : ℕ) → colour (f c) ≢ None → (r : ℕ) × (place r ≡ c)
   pub recs : (r : ℕ) → place r ≢ 0 → Kept p cur (place r) (f (place r)) →
       RecOk card place (width r) (slot r) (name r) (f (place r))
   pub newest : (k : ℕ) → Live f p (card k) → place (latest name count (card k).spelling) ≡ (card k).record_at

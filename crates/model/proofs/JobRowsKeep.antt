@@ -1,57 +1,35 @@
 -- One job's row changes: a record goes into a hand, a job opens, closes, is parked, woken, or nods.
-use Rattle.std.proofs.Common.{◌≡◌, ℕ, ◌≤◌, true, false, cond, ◌≢◌, List, sym, refl, ◌∙◌, subst, arith}
-use borrow.Author.Tests.{both_ways}
+use Rattle.std.proofs.Common.{◌≡◌, ℕ, ◌≤◌, true, false, cond, ◌≢◌, List, sym, ◌∙◌, subst, arith}
 use Rattle.std.proofs.lemmas.Bool.{cond_both}
 use Rattle.model.specs.declared.JobState.{JobState}
-use Rattle.model.specs.declared.JobState.TheVariants.{Closed, Parked, Running}
 use Rattle.model.specs.declared.Phase.{Phase}
-use Rattle.model.specs.declared.Phase.TheVariants.{Arming, Cleaning, Normal, Parting, Repeat, Scanning, Sweeping, Tracing}
-use Rattle.model.specs.Book.{Book, hold, with_holds}
+use Rattle.model.specs.declared.Phase.TheVariants.{Scanning}
+use Rattle.model.specs.Book.{Book, hold}
 use Rattle.model.specs.Cycle.{grey_all, nodded, nodded_job}
-use Rattle.model.specs.Machine.{Cell, Job, State, at, closed_row, empty_hands, in_phase, is_open, is_running, put, set_hand, upd, with_cells, with_hands, with_jobs}
-use Rattle.model.specs.Tables.{opened_job, with_status}
-use Rattle.model.proofs.Colours.{clash}
+use Rattle.model.specs.Machine.{Cell, Job, State, at, empty_hands, in_phase, is_open, is_running, put, set_hand, upd, with_cells, with_jobs}
+use Rattle.model.specs.Tables.{opened_job}
+use Rattle.model.proofs.Colours.{phase_is}
 use Rattle.model.proofs.GreyingKeeps.{Greys, grey_list, greying_keeps, greys_refl, marked_list, stays}
-use Rattle.model.proofs.Invariant.{Flags, HandsOk, Inv, JobOk, Kept, Marking, Protected, StandsFor, marked}
-use Rattle.model.proofs.PhaseCases.{marking_cases, phase_is}
-use Rattle.model.proofs.TableLaws.{at_zeros, length_put, put_elim, upd_all, upd_both, upd_elim}
+use Rattle.model.proofs.Invariant.{Flags, Inv, JobOk, Kept, Marking, Protected, StandsFor, marked}
+use Rattle.model.proofs.TableLaws.{at_zeros, length_put, put_elim, upd_elim}
 
 pub at_none : (h : ℕ) → at empty_hands h ≡ 0
 at_none h = at_zeros 8 h
 
--- the jobs' rows change, and with them their hands in the book
-jobs_keep : (s : State) (b : Book) (place : ℕ → ℕ) (rows : ℕ → Job) (holds : ℕ → ℕ → ℕ) (l : ℕ) → Inv s b place → l ≤ 16 →
-    ((i : ℕ) → JobOk s.cell s.phase s.cursor i (rows i)) → HandsOk rows holds place →
-    Inv (with_jobs s rows l) (with_holds b holds) place
-jobs_keep s b place rows holds l inv small ok hands = record {
-  heap = inv.heap;
-  jobs = ok;
-  cards = inv.cards;
-  hands = hands;
-  recs = inv.recs;
-  lasts = (inv.lasts.0, small);
-}
-
 -- one row changes, and that job's hands in the book
 pub row_keeps : (s : State) (b : Book) (place : ℕ → ℕ) (j l : ℕ) (y : Job) (w : ℕ → ℕ) → Inv s b place → l ≤ 16 →
     JobOk s.cell s.phase s.cursor j y → ((g : ℕ) → StandsFor place (w g) (at y.hands g)) →
-    Inv (with_jobs s (upd s.job j y) l) (with_holds b (upd b.holds j w)) place
-row_keeps s b place j l y w inv small ok rel = jobs_keep s b place (upd s.job j y) (upd b.holds j w) l inv small
-    (upd_all (JobOk s.cell s.phase s.cursor) s.job j y ok (λ i n. inv.jobs i))
-    (upd_both (λ i x z. (g : ℕ) → StandsFor place (z g) (at x.hands g)) s.job b.holds j y w rel (λ i n. inv.hands i))
+    Inv (with_jobs s (upd s.job j y) l) (record b { holds = upd b.holds j w }) place
+row_keeps s b place j l y w inv small ok rel = grind arith
 
 -- one row changes, and the book stays
 pub row_alone_keeps : (s : State) (b : Book) (place : ℕ → ℕ) (j l : ℕ) (y : Job) → Inv s b place → l ≤ 16 →
     JobOk s.cell s.phase s.cursor j y → ((g : ℕ) → StandsFor place (b.holds j g) (at y.hands g)) →
     Inv (with_jobs s (upd s.job j y) l) b place
-row_alone_keeps s b place j l y inv small ok rel = jobs_keep s b place (upd s.job j y) b.holds l inv small
-    (upd_all (JobOk s.cell s.phase s.cursor) s.job j y ok (λ i n. inv.jobs i))
-    (upd_all (λ i x. (g : ℕ) → StandsFor place (b.holds i g) (at x.hands g)) s.job j y rel (λ i n. inv.hands i))
+row_alone_keeps s b place j l y inv small ok rel = grind arith
 
 pub running_open : (t : JobState) → is_running t ≡ true → is_open t ≡ true
-running_open Closed h = h
-running_open Running h = refl
-running_open Parked h = refl
+running_open t h = grind arith
 
 -- what may go into a hand of a job
 pub record MayHold (f : ℕ → Cell) (p : Phase) (cur : ℕ) (b : Job) (place : ℕ → ℕ) (r v : ℕ) : Type 0 where
@@ -61,11 +39,11 @@ pub record MayHold (f : ℕ → Cell) (p : Phase) (cur : ℕ) (b : Job) (place :
 
 job_hand : (f : ℕ → Cell) (p : Phase) (cur : ℕ) (j : ℕ) (b : Job) (place : ℕ → ℕ) (r h v : ℕ) → JobOk f p cur j b →
     is_open b.status ≡ true → 1 ≤ h → h ≤ 8 → MayHold f p cur b place r v →
-    JobOk f p cur j (with_hands b (put b.hands h v))
+    JobOk f p cur j (record b { hands = put b.hands h v })
 job_hand f p cur j b place r h v ok o lo hi m = record {
   range = ok.range;
   eight = length_put b.hands h v ∙ ok.eight;
-  shut = λ c. absurd (both_ways (is_open b.status) c o);
+  shut = λ c. cc;
   flags = ok.flags;
   roots = λ g. put_elim (λ x. x ≢ 0 → Kept p cur x (f x)) b.hands h g v (λ e. m.kept) (λ n. ok.roots g) lo
       (omega (arith, ok.eight));
@@ -85,46 +63,8 @@ hand_keeps s b place j h r v inv o rng m = row_keeps s b place j s.last_job _ _ 
         (λ n. upd_elim (λ y. StandsFor place y (at (s.job j).hands g)) (b.holds j) h g r (λ q. absurd (n q))
         (λ q. inv.hands j g)) rng.0 (omega (arith, (inv.jobs j).eight))
 
-arms_flags : (p : Phase) → Flags p (opened_job p).armed false
-arms_flags Normal = refl
-arms_flags Arming = λ e. refl
-arms_flags Scanning = refl
-arms_flags Tracing = (refl, refl)
-arms_flags Repeat = (refl, refl)
-arms_flags Cleaning = tt
-arms_flags Parting = λ e. refl
-arms_flags Sweeping = refl
-
 pub open_ok : (f : ℕ → Cell) (p : Phase) (cur j : ℕ) → 1 ≤ j → j ≤ 16 → JobOk f p cur j (opened_job p)
-open_ok f p cur j lo hi = record {
-  range = λ o. (lo, hi);
-  eight = refl;
-  shut = λ e. clash cc;
-  flags = λ o. arms_flags p;
-  roots = λ h n. absurd (n (at_none h));
-  protected = λ t o h n. absurd (n (at_none h));
-}
-
-pub close_ok : (f : ℕ → Cell) (p : Phase) (cur j : ℕ) → JobOk f p cur j closed_row
-close_ok f p cur j = record {
-  range = λ o. clash cc;
-  eight = refl;
-  shut = λ e. at_none;
-  flags = λ o. clash cc;
-  roots = λ h n. absurd (n (at_none h));
-  protected = λ t o h n. absurd (n (at_none h));
-}
-
-pub stand_ok : (f : ℕ → Cell) (p : Phase) (cur j : ℕ) (b : Job) (t : JobState) → is_open t ≡ true → is_open b.status ≡ true →
-    JobOk f p cur j b → JobOk f p cur j (with_status t b)
-stand_ok f p cur j b t o w ok = record {
-  range = λ e. ok.range w;
-  eight = ok.eight;
-  shut = λ e. absurd (both_ways (is_open t) e o);
-  flags = λ e. ok.flags w;
-  roots = ok.roots;
-  protected = ok.protected;
-}
+open_ok f p cur j lo hi = grind arith
 
 -- the nod
 abbrev nod_cells : Phase → (ℕ → Cell) → List ℕ → ℕ → Cell
@@ -137,21 +77,11 @@ nod_greys p f l cur = cond_both (in_phase Scanning p) (grey_all f l) f (λ g. Gr
     (λ e. greys_refl f p cur)
 
 nod_flags : (p : Phase) (row : Job) → Flags p row.armed row.owes → Flags p (nodded_job p row).armed false
-nod_flags Normal row h = h
-nod_flags Arming row h = λ e. refl
-nod_flags Scanning row h = h
-nod_flags Tracing row h = (h.0, refl)
-nod_flags Repeat row h = (h.0, refl)
-nod_flags Cleaning row h = tt
-nod_flags Parting row h = λ e. refl
-nod_flags Sweeping row h = h
+nod_flags p row h = grind arith
 
 nod_protects : (p : Phase) (f : ℕ → Cell) (cur j : ℕ) (row : Job) → is_open row.status ≡ true → JobOk f p cur j row →
     Marking p → (h : ℕ) → at row.hands h ≢ 0 → Protected (nod_cells p f row.hands) (at row.hands h)
-nod_protects p f cur j row o ok m = marking_cases (λ q. JobOk f q cur j row → (h : ℕ) → at row.hands h ≢ 0 →
-    Protected (nod_cells q f row.hands) (at row.hands h))
-    (λ ok h n. marked (marked_list f row.hands h n (ok.roots h n).in_use)) (λ ok h n. ok.protected tt (ok.flags o).1 h n)
-    (λ ok h n. ok.protected tt (ok.flags o).1 h n) p m ok
+nod_protects p f cur j row o ok m h n = grind (arith, marked, marked_list)
 
 pub nod_keeps : (s : State) (b : Book) (place : ℕ → ℕ) (j : ℕ) → is_open (s.job j).status ≡ true → Inv s b place →
     Inv (nodded s j) b place

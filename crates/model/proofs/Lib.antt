@@ -1,9 +1,8 @@
 -- Why every run keeps the promise, from the bottom up; docs/PROMISE.md tells it in words.
 
--- laws of tables, searches and texts; the invariant; arguments by phase and by colour
+-- laws of tables and searches; the invariant; colours and phases
 pub mod TableLaws
 pub mod Invariant
-pub mod PhaseCases
 pub mod Colours
 -- what each single change of the store keeps of the invariant
 pub mod Carried

@@ -1,6 +1,5 @@
 -- A name goes off file only at a commit, unreached, and with every name whose record leads to its own.
-use Rattle.std.proofs.Common.{◌≡◌, ℕ, ◌<◌, ◌≤◌, ◌≢◌, ◌⊎◌, List, sym, ap, ◌∙◌, subst, inl, inr}
-use mathlib.Core.Option.{some}
+use Rattle.std.proofs.Common.{◌≡◌, ℕ, ◌<◌, ◌≤◌, ◌≢◌, ◌⊎◌, List, sym, ap, ◌∙◌, subst, inl, inr, Some}
 use Rattle.std.proofs.lemmas.Bool.{cases_eq, cases_lt}
 use Rattle.model.specs.declared.Phase.{Phase}
 use Rattle.model.specs.declared.Phase.TheVariants.{Cleaning, Tracing}
@@ -11,7 +10,6 @@ use Rattle.model.specs.Promise.{Lost}
 use Rattle.model.specs.Runs.{Loses, Picks, Run, World, next}
 use Rattle.model.proofs.CallChanges.{Commit, SameNames}
 use Rattle.model.proofs.CardsRead.{filed_live, on_file}
-use Rattle.model.proofs.Colours.{clash}
 use Rattle.model.proofs.Invariant.{Keeps, Live, LiveCard, Sound, Spared}
 use Rattle.model.proofs.RunsKeep.{next_sound, run_sound}
 use Rattle.model.proofs.StepChanges.{next_changes, next_place, step_book}
@@ -63,7 +61,7 @@ module _ (x : World) (c : Call) (pick : ℕ) (right : Picks x.state pick) (inv :
         }))
         (ap (λ (z : Card). z.spelling) (commits.cards k) ∙ was_live.1) lose.1
 
-    module _ (q : ℕ) (u : List ℕ) (n : x.place q ≢ 0) (e : x.book.name q ≡ some u) where
+    module _ (q : ℕ) (u : List ℕ) (n : x.place q ≢ 0) (e : x.book.name q ≡ Some u) where
       stands_q : Stands s x.place q
       stands_q = record {
         placed = n;
@@ -93,7 +91,7 @@ module _ (x : World) (c : Call) (pick : ℕ) (right : Picks x.state pick) (inv :
           }
             where
               tracing_cleaning : {p : Phase} → p ≡ Tracing → p ≡ Cleaning → ⊥
-              tracing_cleaning a b = clash cc
+              tracing_cleaning a b = cc
 
           at_q : (s'.card m).record_at ≡ x.place q
           at_q = ap (λ (z : Card). z.record_at) (commits.cards m) ∙ ap (λ (i : ℕ). (s.card i).record_at)

@@ -1,37 +1,27 @@
 -- The phase moves on, while cells and cards stay: every such move keeps the invariant, the commit among them.
-use Rattle.std.proofs.Common.{◌≡◌, ℕ, suc, ◌<◌, ◌≤◌, Bool, true, false, cond, ◌&&◌, ◌≢◌, ◌⊎◌, sym, refl, ap, ◌∙◌, subst, inl, inr, arith}
-use mathlib.Core.Option.{Option, none, some}
-use borrow.Author.Tests.{both_ways}
-use Rattle.std.proofs.lemmas.Bool.{cases_Bool, cases_eq}
+use Rattle.std.proofs.Common.{◌≡◌, ℕ, suc, ◌<◌, ◌≤◌, Bool, true, false, cond, ◌&&◌, ◌≢◌, refl, arith, Option, Some}
 use Rattle.model.specs.declared.Colour.{Colour}
 use Rattle.model.specs.declared.Colour.TheVariants.{Black, Grey, White}
 use Rattle.model.specs.declared.JobState.{JobState}
-use Rattle.model.specs.declared.JobState.TheVariants.{Closed, Parked, Running}
 use Rattle.model.specs.declared.Phase.{Phase}
 use Rattle.model.specs.declared.Phase.TheVariants.{Arming, Cleaning, Normal, Parting, Repeat, Scanning, Sweeping, Tracing}
 use Rattle.model.specs.Book.{Book}
 use Rattle.model.specs.Cycle.{all_owe, owes_as, owing}
 use Rattle.model.specs.Machine.{Job, State, at, at_phase, colour, is_open, is_parked, is_running, slots, with_jobs}
-use Rattle.model.proofs.Carried.{cards_move, recs_move}
-use Rattle.model.proofs.Colours.{clash, some_none}
+use Rattle.model.proofs.Carried.{cards_move}
 use Rattle.model.proofs.Invariant.{ColourOk, Flags, Inv, Keeps, Kept, Live, LiveCard, Marked, Marking, Protected, Spared, marked, via}
 use Rattle.model.proofs.TableLaws.{first_none}
 
 -- every open job owes a nod from now on, if a test passes
 abbrev owing_if : Bool → Job → Job
-owing_if t row = record {
-  status = row.status;
-  armed = row.armed;
-  owes = cond t (is_open row.status) row.owes;
-  hands = row.hands;
-}
+owing_if t row = record row { owes = cond t (is_open row.status) row.owes }
 
 abbrev moved : State → Bool → Phase → ℕ → ℕ → State
 moved s t p cur r = at_phase (with_jobs s (λ j. owing_if t (s.job j)) s.last_job) p cur r
 
 -- what a move to phase q, at cursor cur, has to show: of the kept records ...
 record KeptMove (s : State) (q : Phase) (cur : ℕ) : Type 0 where
-  pub unspare : (d : ℕ) → colour (s.cell d) ≡ some White → Spared q cur d → Spared s.phase s.cursor d
+  pub unspare : (d : ℕ) → colour (s.cell d) ≡ Some White → Spared q cur d → Spared s.phase s.cursor d
   pub hand : (j h : ℕ) → at (s.job j).hands h ≢ 0 → Keeps s (at (s.job j).hands h) →
       Kept q cur (at (s.job j).hands h) (s.cell (at (s.job j).hands h))
   pub slot : (c i : ℕ) → Kept q cur c (s.cell c) → at (slots (s.cell c)) i ≢ 0 → Keeps s (at (slots (s.cell c)) i) →
@@ -43,11 +33,11 @@ record KeptMove (s : State) (q : Phase) (cur : ℕ) : Type 0 where
 record CardMove (s : State) (q : Phase) (cur : ℕ) : Type 0 where
   pub unlive : (k : ℕ) → Live s.cell q (s.card k) → LiveCard s k
   pub clears : q ≡ Cleaning → (k : ℕ) → 1 ≤ k → k < cur → (s.card k).record_at ≢ 0 →
-      colour (s.cell (s.card k).record_at) ≢ some White
+      colour (s.cell (s.card k).record_at) ≢ Some White
 
 -- ... of protection ...
 record MarkingMove (s : State) (t : Bool) (q : Phase) : Type 0 where
-  pub protects : Marking q → (c : ℕ) → colour (s.cell c) ≡ some Black → (i : ℕ) → at (slots (s.cell c)) i ≢ 0 →
+  pub protects : Marking q → (c : ℕ) → colour (s.cell c) ≡ Some Black → (i : ℕ) → at (slots (s.cell c)) i ≢ 0 →
       Protected s.cell (at (slots (s.cell c)) i)
   pub protected : Marking q → (j : ℕ) → (owing_if t (s.job j)).owes ≡ false → (h : ℕ) → at (s.job j).hands h ≢ 0 →
       Protected s.cell (at (s.job j).hands h)
@@ -60,59 +50,24 @@ record PhaseMove (s : State) (t : Bool) (q : Phase) (cur : ℕ) : Type 0 where
   pub colours : (d : ℕ) → ColourOk q cur d (colour (s.cell d))
   pub flags : (j : ℕ) → is_open (s.job j).status ≡ true → Flags q (s.job j).armed (owing_if t (s.job j)).owes
 
--- what was spared stays spared
-even : (s : State) (q : Phase) (cur : ℕ) → ((d : ℕ) → colour (s.cell d) ≡ some White → Spared q cur d →
-    Spared s.phase s.cursor d) → ((d : ℕ) → colour (s.cell d) ≡ some White → Spared s.phase s.cursor d →
-    Spared q cur d) → KeptMove s q cur
-even s q cur unspare spare = record {
-  unspare = unspare;
-  hand = λ j h n k. keep _ k;
-  slot = λ c i k n u. keep _ u;
-  card = λ k l u. keep _ u;
-}
-  where
-    keep : (d : ℕ) → Keeps s d → Kept q cur d (s.cell d)
-    keep d k = record { in_use = k.in_use; spared = λ e. spare d e (k.spared e) }
-
 -- neither phase is CLEANING
 not_cleaning : (s : State) (q : Phase) (cur : ℕ) → s.phase ≢ Cleaning → q ≢ Cleaning → CardMove s q cur
-not_cleaning s q cur n m = record {
-  unlive = λ k l. record { filled = l.filled; not_white = λ e. absurd (n e) };
-  clears = λ e. absurd (m e);
-}
-
--- the new phase is none of marking
-not_marking : (s : State) (t : Bool) (q : Phase) → (Marking q → ⊥) → MarkingMove s t q
-not_marking s t q n = record { protects = λ m. absurd (n m); protected = λ m. absurd (n m) }
+not_cleaning s q cur n m = grind arith
 
 phase_keeps : (s : State) (b : Book) (place : ℕ → ℕ) (t : Bool) (q : Phase) (cur r : ℕ) → Inv s b place → PhaseMove s t q cur →
     Inv (moved s t q cur r) b place
 phase_keeps s b place t q cur r inv m = record {
-  heap = record {
-    no_zero = inv.heap.no_zero;
-    inside = inv.heap.inside;
-    colours = m.colours;
-    leads = λ c k i n. m.kept.slot c i k n (inv.heap.leads c (unkeep c k) i n);
-    protects = m.marking.protects;
-  };
-  jobs = λ j. record {
-    range = (inv.jobs j).range;
-    eight = (inv.jobs j).eight;
-    shut = (inv.jobs j).shut;
-    flags = m.flags j;
-    roots = λ h n. m.kept.hand j h n ((inv.jobs j).roots h n);
-    protected = λ tr o. m.marking.protected tr j o;
-  };
+  heap = grind (arith, unkeep);
+  jobs = grind arith;
   cards = cards_move unkeep (λ d k. refl) (record { unlive = m.cards.unlive; lives = m.kept.card; clears = m.cards.clears })
       inv.cards;
   hands = inv.hands;
-  recs = recs_move (record { kept = unkeep; same_slots = λ d k. refl; same_card = λ d k. refl }) m.cards.unlive (λ d n. n)
-      (λ d n. n) inv.recs;
+  recs = grind arith;
   lasts = inv.lasts;
 }
   where
     unkeep : (d : ℕ) → Kept q cur d (s.cell d) → Keeps s d
-    unkeep d k = record { in_use = k.in_use; spared = λ e. m.kept.unspare d e (k.spared e) }
+    unkeep d k = grind arith
 
 -- no open job owes a nod
 abbrev pub NoneOwe : State → Type 0
@@ -129,18 +84,12 @@ no_owes s b place inv p r j o = go (s.job j).status (s.job j).owes refl o
 
     go : (t : JobState) (w : Bool) → (s.job j).owes ≡ w → is_open t ≡ true → (is_parked t && w) ≡ false →
         (is_running t && w) ≡ false → w ≡ false
-    go Closed w e o a c = clash cc
-    go Running w e o a c = c
-    go Parked w e o a c = a
+    go t w e o a c = grind arith
 
 -- a hand of a job that is not open is empty, and the other hands are protected
 all_protected : (s : State) (b : Book) (place : ℕ → ℕ) → Inv s b place → Marking s.phase → NoneOwe s →
     (j h : ℕ) → at (s.job j).hands h ≢ 0 → Protected s.cell (at (s.job j).hands h)
-all_protected s b place inv t no_owed j h n = go (cases_Bool (is_open (s.job j).status))
-  where
-    go : (is_open (s.job j).status ≡ true) ⊎ (is_open (s.job j).status ≡ false) → Protected s.cell (at (s.job j).hands h)
-    go (inl o) = (inv.jobs j).protected t (no_owed j o) h n
-    go (inr o) = absurd (n ((inv.jobs j).shut o h))
+all_protected s b place inv t no_owed j h n = grind arith
 
 module _ (s : State) (b : Book) (place : ℕ → ℕ) (inv : Inv s b place) where
   -- the store, its phase written out
@@ -148,188 +97,59 @@ module _ (s : State) (b : Book) (place : ℕ → ℕ) (inv : Inv s b place) wher
   from p = at_phase s p s.cursor s.rounds
 
   pub sound_from : (p : Phase) → s.phase ≡ p → Inv (from p) b place
-  sound_from p e = subst (λ (q : Phase). Inv (at_phase s q s.cursor s.rounds) b place) e inv
+  sound_from p e = grind arith
 
   move : (p : Phase) → s.phase ≡ p → (t : Bool) (q : Phase) (cur r : ℕ) → PhaseMove (from p) t q cur →
       Inv (moved s t q cur r) b place
   move p e t q cur r m = phase_keeps (from p) b place t q cur r (sound_from p e) m
 
   -- cell 0 has no colour
-  zero_not : (d : ℕ) (c : Colour) → d < 1 → colour (s.cell d) ≢ some c
-  zero_not d c h z = let w : d ≡ 0 = omega arith in some_none c (sym z ∙ ap (λ (m : ℕ). colour (s.cell m)) w
-      ∙ inv.heap.no_zero)
+  zero_not : (d : ℕ) (c : Colour) → d < 1 → colour (s.cell d) ≢ Some c
+  zero_not d c h = grind arith
 
   pub begin_keeps : s.phase ≡ Normal → Inv (at_phase (all_owe s) Arming 0 0) b place
-  begin_keeps e = move Normal e true Arming 0 0 (record {
-    kept = even (from Normal) Arming 0 (λ d a z. tt) (λ d a z. tt);
-    cards = not_cleaning (from Normal) Arming 0 (λ q. clash cc) (λ q. clash cc);
-    marking = not_marking (from Normal) true Arming (λ m. m);
-    colours = λ d. ((sound_from Normal e).heap.colours d).1;
-    flags = λ j o q. absurd (both_ways _ q o);
-  })
+  begin_keeps e = grind arith
 
   pub to_scanning : s.phase ≡ Arming → (r : ℕ) → NoneOwe s → Inv (at_phase (all_owe s) Scanning 0 r) b place
-  to_scanning e r none_owe = move Arming e true Scanning 0 r (record {
-    kept = even (from Arming) Scanning 0 (λ d a z. tt) (λ d a z. tt);
-    cards = not_cleaning (from Arming) Scanning 0 (λ q. clash cc) (λ q. clash cc);
-    marking = record {
-      protects = λ m c a. absurd ((sound_from Arming e).heap.colours c a);
-      protected = λ m j o h n. absurd (n ((inv.jobs j).shut o h));
-    };
-    colours = λ d. tt;
-    flags = λ j o. ((sound_from Arming e).jobs j).flags o (none_owe j o);
-  })
+  to_scanning e r none_owe = grind arith
 
   pub to_tracing : s.phase ≡ Scanning → (r : ℕ) → NoneOwe s → Inv (at_phase s Tracing 1 r) b place
-  to_tracing e r none_owe = move Scanning e false Tracing 1 r (record {
-    kept = even (from Scanning) Tracing 1 (λ d a z. tt) (λ d a z. tt);
-    cards = not_cleaning (from Scanning) Tracing 1 (λ q. clash cc) (λ q. clash cc);
-    marking = record {
-      protects = (sound_from Scanning e).heap.protects;
-      protected = λ m j o h n. all_protected (from Scanning) b place (sound_from Scanning e) tt none_owe j h n;
-    };
-    colours = λ d. zero_not d Grey;
-    flags = λ j o. (((sound_from Scanning e).jobs j).flags o, none_owe j o);
-  })
+  to_tracing e r none_owe = grind arith
 
   -- a trace step goes on to the next cell
-  pub trace_next : s.phase ≡ Tracing → (r : ℕ) → colour (s.cell s.cursor) ≢ some Grey →
+  pub trace_next : s.phase ≡ Tracing → (r : ℕ) → colour (s.cell s.cursor) ≢ Some Grey →
       Inv (at_phase s Tracing (suc s.cursor) r) b place
-  trace_next e r not_grey = move Tracing e false Tracing (suc s.cursor) r (record {
-    kept = even (from Tracing) Tracing (suc s.cursor) (λ d a z. tt) (λ d a z. tt);
-    cards = not_cleaning (from Tracing) Tracing (suc s.cursor) (λ q. clash cc) (λ q. clash cc);
-    marking = record {
-      protects = (sound_from Tracing e).heap.protects;
-      protected = λ m j. ((sound_from Tracing e).jobs j).protected m;
-    };
-    colours = λ d h. elim (cases_eq d s.cursor) [
-      | inl q ↦ (λ z. not_grey (ap (λ (m : ℕ). colour (s.cell m)) (sym q) ∙ z))
-      | inr q ↦ (sound_from Tracing e).heap.colours d
-          (omega arith)
-    ];
-    flags = λ j o. ((sound_from Tracing e).jobs j).flags o;
-  })
+  trace_next e r not_grey = grind arith
 
   pub repeat_next : s.phase ≡ Repeat → (cur r : ℕ) → Inv (at_phase s Repeat cur r) b place
-  repeat_next e cur r = move Repeat e false Repeat cur r (record {
-    kept = even (from Repeat) Repeat cur (λ d a z. tt) (λ d a z. tt);
-    cards = not_cleaning (from Repeat) Repeat cur (λ q. clash cc) (λ q. clash cc);
-    marking = record {
-      protects = (sound_from Repeat e).heap.protects;
-      protected = λ m j. ((sound_from Repeat e).jobs j).protected m;
-    };
-    colours = λ d. tt;
-    flags = λ j o. ((sound_from Repeat e).jobs j).flags o;
-  })
+  repeat_next e cur r = grind arith
 
   -- a new round
   pub round_next : s.phase ≡ Repeat → (r : ℕ) → Inv (at_phase s Tracing 1 r) b place
-  round_next e r = move Repeat e false Tracing 1 r (record {
-    kept = even (from Repeat) Tracing 1 (λ d a z. tt) (λ d a z. tt);
-    cards = not_cleaning (from Repeat) Tracing 1 (λ q. clash cc) (λ q. clash cc);
-    marking = record {
-      protects = (sound_from Repeat e).heap.protects;
-      protected = λ m j. ((sound_from Repeat e).jobs j).protected m;
-    };
-    colours = λ d. zero_not d Grey;
-    flags = λ j o. ((sound_from Repeat e).jobs j).flags o;
-  })
+  round_next e r = grind arith
 
   -- the commit: nothing is grey, so what is protected is black
-  protected_black : ((d : ℕ) → colour (s.cell d) ≢ some Grey) → {c : ℕ} → Protected s.cell c → colour (s.cell c) ≡ some Black
+  protected_black : ((d : ℕ) → colour (s.cell d) ≢ Some Grey) → {c : ℕ} → Protected s.cell c → colour (s.cell c) ≡ Some Black
   protected_black no_grey (marked {c = c} l) = go (colour (s.cell c)) refl l
     where
-      go : (l : Option Colour) → colour (s.cell c) ≡ l → Marked l → l ≡ some Black
-      go none e h = absurd h
-      go (some White) e h = absurd h
-      go (some Grey) e h = absurd (no_grey c e)
-      go (some Black) e h = refl
+      go : (l : Option Colour) → colour (s.cell c) ≡ l → Marked l → l ≡ Some Black
+      go l e h = grind arith
   protected_black no_grey (via i g n e z) = absurd (n (protected_black no_grey g))
 
-  pub commit_keeps : s.phase ≡ Tracing → (r : ℕ) → ((d : ℕ) → colour (s.cell d) ≢ some Grey) →
+  pub commit_keeps : s.phase ≡ Tracing → (r : ℕ) → ((d : ℕ) → colour (s.cell d) ≢ Some Grey) →
       Inv (at_phase s Cleaning 1 r) b place
-  commit_keeps e r no_grey = move Tracing e false Cleaning 1 r (record {
-    kept = record {
-      unspare = λ d a z. tt;
-      hand = λ j h n k. black_kept _ (protected_black no_grey
-          (all_protected (from Tracing) b place (sound_from Tracing e) tt (λ i o. (((sound_from Tracing e).jobs i).flags o).1) j h
-          n));
-      slot = λ c i k n u. black_kept _ (protected_black no_grey
-          ((sound_from Tracing e).heap.protects tt c (is_black c (colour (s.cell c)) refl k) i n));
-      card = λ k l u. record { in_use = u.in_use; spared = λ z. l.not_white refl z };
-    };
-    cards = record {
-      unlive = λ k l. record { filled = l.filled; not_white = λ q. clash cc };
-      clears = λ q k lo hi. absurd (omega arith);
-    };
-    marking = not_marking (from Tracing) false Cleaning (λ m. m);
-    colours = no_grey;
-    flags = λ j o. tt;
-  })
-    where
-      black_kept : (c : ℕ) → colour (s.cell c) ≡ some Black → Kept Cleaning 1 c (s.cell c)
-      black_kept c d = record { in_use = λ z. clash cc; spared = λ z. clash cc }
-
-      is_black : (c : ℕ) (l : Option Colour) → colour (s.cell c) ≡ l → Kept Cleaning 1 c (s.cell c) →
-          colour (s.cell c) ≡ some Black
-      is_black c none q k = absurd (k.in_use q)
-      is_black c (some White) q k = absurd (k.spared q)
-      is_black c (some Grey) q k = absurd (no_grey c q)
-      is_black c (some Black) q k = q
+  commit_keeps e r no_grey = move Tracing e false Cleaning 1 r (grind (arith, protected_black, all_protected, sound_from))
 
   pub clean_next : s.phase ≡ Cleaning → (r : ℕ) →
-      ((s.card s.cursor).record_at ≢ 0 → colour (s.cell (s.card s.cursor).record_at) ≢ some White) →
+      ((s.card s.cursor).record_at ≢ 0 → colour (s.cell (s.card s.cursor).record_at) ≢ Some White) →
       Inv (at_phase s Cleaning (suc s.cursor) r) b place
-  clean_next e r is_clean = move Cleaning e false Cleaning (suc s.cursor) r (record {
-    kept = even (from Cleaning) Cleaning (suc s.cursor) (λ d a z. z) (λ d a z. z);
-    cards = record {
-      unlive = λ k l. l;
-      clears = λ q k lo hi. elim (cases_eq s.cursor k) [
-        | inl w ↦ subst (λ (m : ℕ). (s.card m).record_at ≢ 0 →
-            colour (s.cell (s.card m).record_at) ≢ some White) w is_clean
-        | inr w ↦ (sound_from Cleaning e).cards.cleared refl k
-            lo (omega arith)
-      ];
-    };
-    marking = not_marking (from Cleaning) false Cleaning (λ m. m);
-    colours = (sound_from Cleaning e).heap.colours;
-    flags = λ j o. tt;
-  })
+  clean_next e r is_clean = move Cleaning e false Cleaning (suc s.cursor) r (grind (arith, sound_from))
 
   pub to_parting : s.phase ≡ Cleaning → (r : ℕ) → 512 < s.cursor → Inv (at_phase (all_owe s) Parting 0 r) b place
-  to_parting e r past = move Cleaning e true Parting 0 r (record {
-    kept = even (from Cleaning) Parting 0 (λ d a z. z) (λ d a z. z);
-    cards = record {
-      unlive = λ k l. record {
-        filled = l.filled;
-        not_white = λ q. let h = inv.cards.ranged k l.filled in (sound_from Cleaning e).cards.cleared refl k h.0
-            (omega arith) l.filled;
-      };
-      clears = λ q. clash cc;
-    };
-    marking = not_marking (from Cleaning) true Parting (λ m. m);
-    colours = (sound_from Cleaning e).heap.colours;
-    flags = λ j o q. absurd (both_ways _ q o);
-  })
+  to_parting e r past = move Cleaning e true Parting 0 r (grind (arith, sound_from))
 
   pub to_sweeping : s.phase ≡ Parting → (r : ℕ) → NoneOwe s → Inv (at_phase s Sweeping 1 r) b place
-  to_sweeping e r none_owe = move Parting e false Sweeping 1 r (record {
-    kept = even (from Parting) Sweeping 1 (λ d a z. zero_not d White z a) (λ d a z. absurd z);
-    cards = not_cleaning (from Parting) Sweeping 1 (λ q. clash cc) (λ q. clash cc);
-    marking = not_marking (from Parting) false Sweeping (λ m. m);
-    colours = λ d. ((sound_from Parting e).heap.colours d, zero_not d Black);
-    flags = λ j o. ((sound_from Parting e).jobs j).flags o (none_owe j o);
-  })
+  to_sweeping e r none_owe = move Parting e false Sweeping 1 r (grind (arith, sound_from, zero_not))
 
   pub to_normal : s.phase ≡ Sweeping → (r : ℕ) → s.size < s.cursor → Inv (at_phase s Normal 0 r) b place
-  to_normal e r past = move Sweeping e false Normal 0 r (record {
-    kept = even (from Sweeping) Normal 0 (λ d a z. let h = inv.heap.inside d (λ q. clash cc) in omega arith) (λ d a z. tt);
-    cards = not_cleaning (from Sweeping) Normal 0 (λ q. clash cc) (λ q. clash cc);
-    marking = not_marking (from Sweeping) false Normal (λ m. m);
-    colours = λ d. (
-      ((sound_from Sweeping e).heap.colours d).0,
-      λ z. let h = inv.heap.inside d (λ q. clash cc) in ((sound_from
-          Sweeping e).heap.colours d).1 (omega arith) z,
-    );
-    flags = λ j o. ((sound_from Sweeping e).jobs j).flags o;
-  })
+  to_normal e r past = grind arith

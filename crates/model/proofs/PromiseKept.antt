@@ -1,7 +1,5 @@
 -- The promise is kept.
-use Rattle.std.proofs.Common.{◌≡◌, ℕ, Bool, T, ◌≢◌, List, Err, sym, ap, ◌∙◌, subst, inl, inr, arith}
-use mathlib.Core.Option.{some}
-use Rattle.std.proofs.lemmas.Bool.{cases_Bool}
+use Rattle.std.proofs.Common.{◌≡◌, ℕ, Bool, ◌≢◌, List, Err, sym, ap, ◌∙◌, arith, Some, IsTrue}
 use Rattle.refusal.specs.declared.Refusal.{Refusal}
 use Rattle.model.specs.Book.{Book, Reached, bearer}
 use Rattle.model.specs.Calls.{Call}
@@ -38,8 +36,8 @@ right_pick s = (
     k : ℕ
     k = first t 1 s.size
 
-    nz : T (room s) → first t 1 s.size ≢ 0
-    nz r z = elim (cases_Bool (room s)) [ inl e ↦ not_zero _ e z | inr e ↦ subst T e r ]
+    nz : IsTrue (room s) → first t 1 s.size ≢ 0
+    nz = not_zero _
 
 refused_same : (x : World) (c : Call) (pick : ℕ) (e : Refusal) → outcome x.state c pick ≡ Err e → next x c pick ≡ x
 unfolding next
@@ -72,7 +70,7 @@ promise {x} run = record {
     place : ℕ → ℕ
     place = x.place
 
-    is_bearer : (r : ℕ) (t : List ℕ) → Reached b r → b.name r ≡ some t → bearer b t ≡ r
+    is_bearer : (r : ℕ) (t : List ℕ) → Reached b r → b.name r ≡ Some t → bearer b t ≡ r
     is_bearer r t h e = (files s b place inv r t (reached_stands s b place inv h) e).1
 
 pub theorem : Theorem

@@ -1,21 +1,20 @@
 -- Every call keeps the invariant, and so does every run.
-use Rattle.std.proofs.Common.{◌≡◌, ℕ, zero, suc, true, false, cond, not, T, ltb, sym, refl, ap, subst, arith, ltb-false, ltb-true, eq-eqb}
+use Rattle.std.proofs.Common.{◌≡◌, ℕ, zero, suc, false, cond, not, ltb, refl, ap, subst, arith, ltb-false, eq-eqb}
 use Rattle.std.proofs.lemmas.Bool.{cond_both}
 use Rattle.model.specs.declared.JobState.TheVariants.{Parked, Running}
 use Rattle.model.specs.declared.Phase.TheVariants.{Normal}
 use Rattle.model.specs.Book.{Book}
 use Rattle.model.specs.Calls.{Action, Call, Spelling, begin, by, close, copy, drop_hand, find, follow, load, make, nod, open_job, park, same, settle, spelling_of, step, store, text, wake}
 use Rattle.model.specs.Machine.{State, filed, upd}
-use Rattle.model.specs.Runs.{FreeCell, Picks, Run, Through, World, granted, more, new_world, next, now, standing, start, then}
-use Rattle.model.specs.Tables.{checks, effect, is_on_file, job_checks, job_effect, room, settle_on, settles}
+use Rattle.model.specs.Runs.{Picks, Run, Through, World, granted, more, new_world, next, now, standing, start, called}
+use Rattle.model.specs.Tables.{checks, effect, is_on_file, job_checks, job_effect, settle_on, settles}
+use Rattle.model.proofs.Colours.{phase_is}
 use Rattle.model.proofs.CardsRead.{filed_live}
-use Rattle.model.proofs.Colours.{clash}
 use Rattle.model.proofs.Granted.{Passed, hand_range, next_cases, not_zero, or_second}
 use Rattle.model.proofs.Invariant.{Inv, LiveCard, Sound}
 use Rattle.model.proofs.JobCallsKeep.{close_keeps, copy_keeps, drop_keeps, follow_keeps, load_keeps, open_keeps, parked_open, status_keeps}
-use Rattle.model.proofs.JobRowsKeep.{at_none, nod_keeps, running_open}
+use Rattle.model.proofs.JobRowsKeep.{nod_keeps, running_open}
 use Rattle.model.proofs.NamesKeep.{find_keeps, found_keeps, make_keeps, settle_makes}
-use Rattle.model.proofs.PhaseCases.{phase_is}
 use Rattle.model.proofs.PhaseMoves.{begin_keeps}
 use Rattle.model.proofs.StepsKeep.{step_keeps}
 use Rattle.model.proofs.StoreKeeps.{store_keeps}
@@ -25,8 +24,7 @@ module _ (s : State) (b : Book) (place : ℕ → ℕ) where
   -- a call that makes no record leaves the cells given to records
   old_places : (s' : State) (b' : Book) (n pick : ℕ) → Inv s' b' (standing place s') →
       Inv s' b' (standing (cond (ltb n n) (upd place n pick) place) s')
-  old_places s' b' n pick inv = cond_both (ltb n n) (upd place n pick) place (λ f. Inv s' b' (standing f s'))
-      (λ e. let h = ltb-true n n e in absurd (omega arith)) (λ e. inv)
+  old_places s' b' n pick inv = grind arith
 
   unfreed : (s' : State) (b' : Book) (n pick : ℕ) → Inv s' b' place →
       Inv s' b' (standing (cond (ltb n n) (upd place n pick) place) s')
@@ -49,9 +47,6 @@ module _ (x : World) (pick : ℕ) (inv : Sound x) (right : Picks x.state pick) w
   abbrev b : Book
   b = x.book
 
-  picked : room s ≡ true → FreeCell s pick
-  picked e = right (subst T (sym e) tt)
-
   settle_keeps : (j : ℕ) (name : Spelling) (h w : ℕ) → Passed (job_checks s j (settle name h w)) →
       After x j (settle name h w) pick
   settle_keeps j name h w (settles, (hs, (width, (run, (cell, (card, rest)))))) = go (filed s (text name)) refl
@@ -63,7 +58,7 @@ module _ (x : World) (pick : ℕ) (inv : Sound x) (right : Picks x.state pick) w
       go : (k : ℕ) → filed s (text name) ≡ k →
           Sound (granted x (by j (settle name h w)) pick (settle_on k s j (text name) h w pick))
       go zero q = new_place s b x.place _ _ b.count pick
-          (settle_makes s b x.place inv pick w (picked (or_second _ _ (off q) cell)) j (text name) h run (hand_range h hs) q
+          (settle_makes s b x.place inv pick w (right (or_second _ _ (off q) cell)) j (text name) h run (hand_range h hs) q
           (not_zero _ (or_second _ _ (off q) card)))
       go (suc k) q = let l = filed_live s (text name) (λ z. omega arith) in unfreed s b x.place _ _ b.count pick
           (found_keeps s b x.place inv j h (suc k) (text name) run (hand_range h hs)
@@ -77,7 +72,7 @@ module _ (x : World) (pick : ℕ) (inv : Sound x) (right : Picks x.state pick) w
       (status_keeps s b x.place inv j Running refl (parked_open _ p.0))
   job_call_keeps j nod p = unfreed s b x.place _ _ b.count pick (nod_keeps s b x.place j (running_open _ p.0) inv)
   job_call_keeps j (make h w) p = new_place s b x.place _ _ b.count pick
-      (make_keeps s b x.place inv pick w (picked p.1.1.1.0) j h p)
+      (make_keeps s b x.place inv pick w (right p.1.1.1.0) j h p)
   job_call_keeps j (settle name h w) p = settle_keeps j name h w p
   job_call_keeps j (find name h) p = unfreed s b x.place _ _ b.count pick (find_keeps s b x.place inv j name h p)
   job_call_keeps j (load g i h) p = unfreed s b x.place _ _ b.count pick (load_keeps s b x.place inv j g i h p)
@@ -98,46 +93,11 @@ module _ (x : World) (pick : ℕ) (inv : Sound x) (right : Picks x.state pick) w
   next_sound c = next_cases x c pick Sound inv (granted_keeps c)
 
 new_sound : (n w : ℕ) → Sound (new_world n w)
-new_sound n w = record {
-  heap = record {
-    no_zero = refl;
-    inside = λ c h. absurd (h refl);
-    colours = λ c. ((λ e. clash cc), (λ e. clash cc));
-    leads = λ c k. absurd (k.in_use refl);
-    protects = λ t. absurd t;
-  };
-  jobs = λ j. record {
-    range = λ e. clash cc;
-    eight = refl;
-    shut = λ e. at_none;
-    flags = λ o. clash cc;
-    roots = λ h z. absurd (z (at_none h));
-    protected = λ t. absurd t;
-  };
-  cards = record {
-    ranged = λ k h. absurd (h refl);
-    live = λ k l. absurd (l.filled refl);
-    back = λ c k. absurd (k.in_use refl);
-    distinct = λ k m l. absurd (l.filled refl);
-    cleared = λ e. clash cc;
-  };
-  hands = λ j h. record { is = at_none h; none_is = λ z. refl };
-  recs = record {
-    none_at = refl;
-    unmade = λ r h. refl;
-    unmade_slots = λ r i h. refl;
-    one_place = λ r t e h. absurd (h refl);
-    stands = λ r h. absurd (h refl);
-    owner = λ c h. absurd (h refl);
-    recs = λ r h. absurd (h refl);
-    newest = λ k l. absurd (l.filled refl);
-  };
-  lasts = (omega arith, omega arith);
-}
+new_sound n w = grind arith
 
 pub run_sound : {x : World} → Run x → Sound x
 run_sound (start n w small) = new_sound n w
-run_sound (then {x = y} run c pick right) = next_sound y pick (run_sound run) right c
+run_sound (called {x = y} run c pick right) = next_sound y pick (run_sound run) right c
 
 pub through_sound : {P : World → Type 0} {x y : World} → Through P x y → Sound x → Sound y
 through_sound (now p) h = h

@@ -1,27 +1,25 @@
 -- What a step may change of kept records, names and marks; and so what any call may change.
-use Rattle.std.proofs.Common.{◌≡◌, ℕ, zero, suc, ◌<◌, ◌≤◌, cond, ltb, ◌≢◌, ◌⊎◌, sym, refl, ap, ◌∙◌, subst, inl, inr, arith, ltb-false, ltb-true}
-use mathlib.Core.Option.{none, some}
+use Rattle.std.proofs.Common.{◌≡◌, ℕ, zero, suc, ◌<◌, ◌≤◌, cond, ltb, ◌≢◌, ◌⊎◌, sym, refl, ap, ◌∙◌, subst, inl, inr, arith, Some}
 use Rattle.std.proofs.lemmas.Bool.{cond_both}
 use Rattle.model.specs.declared.Colour.TheVariants.{Black, Grey, White}
 use Rattle.model.specs.declared.Phase.{Phase}
 use Rattle.model.specs.declared.Phase.TheVariants.{Arming, Cleaning, Normal, Parting, Repeat, Scanning, Sweeping, Tracing}
 use Rattle.model.specs.Book.{Book, write}
 use Rattle.model.specs.Calls.{Call, begin, by, open_job, step}
-use Rattle.model.specs.Cycle.{all_owe, clean_on, cleaned, cleared, grey_all, handshake, nod_or, onward, owing, round_end, scanned, step_from, sweep_on, swept, trace_on, traced}
-use Rattle.model.specs.Machine.{Card, Cell, State, at, at_phase, colour, is_grey, is_parked, is_white, painted, slots, upd, with_cards}
+use Rattle.model.specs.Cycle.{all_owe, clean_on, cleaned, grey_all, handshake, nod_or, onward, owing, round_end, scanned, step_from, sweep_on, swept, trace_on, traced}
+use Rattle.model.specs.Machine.{Cell, State, at, at_phase, colour, is_grey, is_parked, painted, slots, upd}
 use Rattle.model.specs.Runs.{Picks, World, given, next}
 use Rattle.model.specs.Tables.{checks, effect}
-use Rattle.model.proofs.CallChanges.{Changes, Commit, SameNames, Touched, from_marked, job_changes, nod_change, rows_change}
+use Rattle.model.proofs.CallChanges.{Changes, Touched, from_marked, job_changes, nod_change, rows_change}
 use Rattle.model.proofs.CallsByEffect.{effect_of}
-use Rattle.model.proofs.Colours.{clash, free_white, grey_is, white_is}
+use Rattle.model.proofs.Colours.{free_white, grey_is, phase_is}
 use Rattle.model.proofs.Granted.{Passed, next_cases}
-use Rattle.model.proofs.GreyingKeeps.{grey_list, marked_in, unused_greyer, used_greyer}
-use Rattle.model.proofs.Invariant.{Inv, Keeps, Kept, Live, LiveCard, Marked, Sound, Spared}
-use Rattle.model.proofs.PhaseCases.{phase_is}
+use Rattle.model.proofs.GreyingKeeps.{marked_in}
+use Rattle.model.proofs.Invariant.{Inv, Marked, Sound, Spared}
 use Rattle.model.proofs.SlotsAreLastPut.{new_edge, write_count}
-use Rattle.model.proofs.StepsKeep.{commit_end, phase_scanned, repeat_end, trace_on_cases}
-use Rattle.model.proofs.SweepVisit.{standing_was, sweep_back, sweep_marked, sweep_used}
-use Rattle.model.proofs.TableLaws.{upd_elim, upd_other}
+use Rattle.model.proofs.StepsKeep.{phase_scanned, repeat_end, trace_on_cases}
+use Rattle.model.proofs.SweepVisit.{standing_was}
+use Rattle.model.proofs.TableLaws.{upd_elim}
 
 module _ (s : State) (b : Book) (place : ℕ → ℕ) (inv : Inv s b place) where
   abbrev Stepped : State → Type 0
@@ -29,22 +27,12 @@ module _ (s : State) (b : Book) (place : ℕ → ℕ) (inv : Inv s b place) wher
 
   -- a step that leaves cells and cards
   moves_on : (s' : State) → ((d : ℕ) → s'.cell d ≡ s.cell d) → ((k : ℕ) → s'.card k ≡ s.card k) →
-      ((d : ℕ) → colour (s.cell d) ≡ some White → Spared s'.phase s'.cursor d → Spared s.phase s.cursor d) →
+      ((d : ℕ) → colour (s.cell d) ≡ Some White → Spared s'.phase s'.cursor d → Spared s.phase s.cursor d) →
       (s'.phase ≢ Cleaning) ⊎ ((s.phase ≡ Tracing) × (s'.phase ≡ Cleaning)) → Stepped s'
-  moves_on s' cells cards unspare leads_to = record {
-    back = λ d. subst (λ (x : Cell). Kept s'.phase s'.cursor d x → Keeps s d ⊎ (colour (s.cell d) ≡ none)) (sym (cells d))
-        (λ k. inl (record { in_use = k.in_use; spared = λ z. unspare d z (k.spared z) }));
-    names = go leads_to;
-    marks = λ d l. inl (subst (λ (x : Cell). Marked (colour x)) (cells d) l);
-  }
-    where
-      go : (s'.phase ≢ Cleaning) ⊎ ((s.phase ≡ Tracing) × (s'.phase ≡ Cleaning)) → SameNames s s' ⊎ Commit step s s'
-      go (inl n) = inl (λ k l. subst (λ (x : Card). Live s'.cell s'.phase x × (x.spelling ≡ (s.card k).spelling))
-          (sym (cards k)) (record { filled = l.filled; not_white = λ q. absurd (n q) }, refl))
-      go (inr n) = inr (record { by_step = refl; before = n.0; after = n.1; cells = cells; cards = cards })
+  moves_on s' cells cards unspare leads_to = grind arith
 
   spared_at : (p : Phase) → s.phase ≡ p → ((d : ℕ) → Spared p s.cursor d) → (d : ℕ) → Spared s.phase s.cursor d
-  spared_at p e h d = subst (λ (q : Phase). Spared q s.cursor d) (sym e) (h d)
+  spared_at p e h d = grind arith
 
   shake_change : (next : State) → Stepped next → Stepped (handshake s next)
   shake_change next h = go (owing is_parked s)
@@ -54,15 +42,12 @@ module _ (s : State) (b : Book) (place : ℕ → ℕ) (inv : Inv s b place) wher
       go (suc k) = nod_change s b place inv step (suc k)
 
   -- a trace step at a grey cell
-  grey_step_change : colour (s.cell s.cursor) ≡ some Grey → ((d : ℕ) → Spared s.phase s.cursor d) →
+  grey_step_change : colour (s.cell s.cursor) ≡ Some Grey → ((d : ℕ) → Spared s.phase s.cursor d) →
       (q : Phase) (cur r : ℕ) → q ≢ Cleaning → Stepped (at_phase (scanned s) q cur r)
   unfolding scanned
   grey_step_change a spare q cur r other = record {
-    back = λ d k. inl (record {
-      in_use = unused_greyer (grey_list s.cell (slots (s.cell s.cursor)) d) (from d k.in_use);
-      spared = λ z. spare d;
-    });
-    names = inl (λ k l. (record { filled = l.filled; not_white = λ e. absurd (other e) }, refl));
+    back = grind arith;
+    names = grind arith;
     marks = λ d l. upd_elim (λ y. Marked (colour y) → Marked (colour (s.cell d)) ⊎ Touched s (at_phase (scanned s) q cur r) d) g
         s.cursor d (painted Black (g s.cursor))
         (λ e u. inl (subst (λ (m : ℕ). Marked (colour (s.cell m))) e (subst Marked (sym a) tt)))
@@ -71,13 +56,6 @@ module _ (s : State) (b : Book) (place : ℕ → ℕ) (inv : Inv s b place) wher
     where
       g : ℕ → Cell
       g = grey_all s.cell (slots (s.cell s.cursor))
-
-      used_g : colour (g s.cursor) ≢ none
-      used_g = used_greyer (grey_list s.cell (slots (s.cell s.cursor)) s.cursor) (λ z. clash cc)
-
-      from : (d : ℕ) → colour (upd g s.cursor (painted Black (g s.cursor)) d) ≢ none → colour (g d) ≢ none
-      from d = upd_elim (λ y. colour y ≢ none → colour (g d) ≢ none) g s.cursor d (painted Black (g s.cursor))
-          (λ e h z. used_g (ap (λ (m : ℕ). colour (g m)) e ∙ z)) (λ e h. h)
 
       go : (d : ℕ) → Marked (colour (s.cell d)) ⊎ ((i : ℕ) × (at (slots (s.cell s.cursor)) i ≡ d)) →
           Marked (colour (s.cell d)) ⊎ Touched s (at_phase (scanned s) q cur r) d
@@ -89,98 +67,45 @@ module _ (s : State) (b : Book) (place : ℕ → ℕ) (inv : Inv s b place) wher
   trace_change spare tracing = cond_both (is_grey (s.cell s.cursor)) (scanned s) s (λ x. Stepped (trace_on x))
       (λ a. trace_on_cases Stepped (scanned s)
       (λ q. grey_step_change (grey_is _ a) spare (scanned s).phase _ _ (λ z. not_cleaning (phase_scanned s) z))
-      (λ q. repeat_end Stepped (scanned s) (phase_scanned s) (grey_step_change (grey_is _ a) spare Tracing _ _ (λ z. clash cc))))
+      (λ q. repeat_end Stepped (scanned s) (phase_scanned s) (grey_step_change (grey_is _ a) spare Tracing _ _ (λ z. cc))))
       (λ a. trace_on_cases Stepped s (λ q. moves_on (onward s) (λ d. refl) (λ k. refl) (λ d u v. spare d) (inl (other tracing)))
       (λ q. end tracing))
     where
       not_cleaning : {p : Phase} → p ≡ Repeat → p ≡ Cleaning → ⊥
-      not_cleaning a c = clash cc
+      not_cleaning a c = cc
 
       other : (s.phase ≡ Tracing) ⊎ (s.phase ≡ Repeat) → s.phase ≢ Cleaning
-      other (inl e) z = clash cc
-      other (inr e) z = clash cc
+      other h = grind arith
 
       end : (s.phase ≡ Tracing) ⊎ (s.phase ≡ Repeat) → Stepped (round_end s)
-      end (inl e) = commit_end Stepped s e (moves_on (at_phase s Cleaning 1 s.rounds) (λ d. refl) (λ k. refl)
-          (λ d u v. spare d) (inr (e, refl)))
-      end (inr e) = repeat_end Stepped s e (moves_on (at_phase s Tracing 1 (suc s.rounds)) (λ d. refl) (λ k. refl)
-          (λ d u v. spare d) (inl (λ z. clash cc)))
+      end h = grind arith
 
   -- the visit of a card: live cards stay
   clean_change : s.phase ≡ Cleaning → Stepped (clean_on (cleaned s))
-  clean_change e = cond_both (is_white (s.cell (s.card s.cursor).record_at)) (cleared s) s (λ x. Stepped (clean_on x))
-      (λ q. go (upd s.card s.cursor (record { spelling = (s.card s.cursor).spelling; record_at = 0 }))
-      (λ k l. upd_other s.card s.cursor k _
-      (λ w. l.not_white e (ap (λ (m : ℕ). colour (s.cell (s.card m).record_at)) (sym w) ∙ white_is _ q))))
-      (λ q. go s.card (λ k l. refl))
-    where
-      go : (card' : ℕ → Card) → ((k : ℕ) → LiveCard s k → card' k ≡ s.card k) →
-          Stepped (clean_on (with_cards s card' s.last_card))
-      go card' stay = cond_both (ltb s.cursor 512) (onward (with_cards s card' s.last_card))
-          (at_phase (all_owe (with_cards s card' s.last_card)) Parting 0 s.rounds) Stepped
-          (λ q. record {
-            back = λ d k. inl (record {
-              in_use = k.in_use;
-              spared = λ z. subst (λ (p : Phase). Spared p s.cursor d) (sym e)
-                  (subst (λ (p : Phase). Spared p (suc s.cursor) d) e (k.spared z));
-            });
-            names = inl (λ k l. subst (λ (x : Card). Live s.cell s.phase x × (x.spelling ≡ (s.card k).spelling))
-                (sym (stay k l)) (l, refl));
-            marks = λ d l. inl l;
-          })
-          (λ q. record {
-            back = λ d k. inl (record { in_use = k.in_use; spared = λ z. absurd (k.spared z) });
-            names = inl (λ k l. subst (λ (x : Card). Live s.cell Parting x × (x.spelling ≡ (s.card k).spelling))
-                (sym (stay k l)) (record { filled = l.filled; not_white = λ (w : Parting ≡ Cleaning). clash cc }, refl));
-            marks = λ d l. inl l;
-          })
+  clean_change e = grind arith
 
   sweep_change : s.phase ≡ Sweeping → Stepped (sweep_on (swept s))
-  sweep_change e = cond_both (ltb s.cursor s.size) (onward (swept s)) (at_phase (swept s) Normal 0 s.rounds) Stepped
-      (λ q. record {
-        back = λ d k. inl (before d (subst (λ (p : Phase). Kept p (suc s.cursor) d ((swept s).cell d)) e k));
-        names = inl (λ k l. (record { filled = l.filled; not_white = λ w. absurd (other w) }, refl));
-        marks = λ d l. inl (sweep_marked s.cell s.cursor d l);
-      })
-      (λ q. record {
-        back = λ d k. inl (before d (record {
-          in_use = k.in_use;
-          spared = λ z. let h = inv.heap.inside d (sweep_used s.cell s.cursor d k.in_use) in let w =
-              ltb-false s.cursor s.size q in omega arith;
-        }));
-        names = inl (λ k l. (record { filled = l.filled; not_white = λ (w : Normal ≡ Cleaning). clash cc }, refl));
-        marks = λ d l. inl (sweep_marked s.cell s.cursor d l);
-      })
-    where
-      other : s.phase ≢ Cleaning
-      other w = clash cc
-
-      before : (d : ℕ) → Kept Sweeping (suc s.cursor) d ((swept s).cell d) → Keeps s d
-      before d k = subst (λ (p : Phase). Kept p s.cursor d (s.cell d)) (sym e) (sweep_back s.cell s.cursor d k)
+  sweep_change e = grind arith
 
   step_changes : (p : Phase) → s.phase ≡ p → Stepped (step_from p s)
   step_changes Normal e = rows_change step s s.job s.last_job
   step_changes Arming e = shake_change _ (moves_on (at_phase (all_owe s) Scanning 0 s.rounds) (λ d. refl) (λ k. refl)
-      (λ d u v. spared_at Arming e (λ d. tt) d) (inl (λ z. clash cc)))
+      (λ d u v. spared_at Arming e (λ d. tt) d) (inl (λ z. cc)))
   step_changes Scanning e = shake_change _ (moves_on (at_phase s Tracing 1 1) (λ d. refl) (λ k. refl)
-      (λ d u v. spared_at Scanning e (λ d. tt) d) (inl (λ z. clash cc)))
+      (λ d u v. spared_at Scanning e (λ d. tt) d) (inl (λ z. cc)))
   step_changes Tracing e = trace_change (spared_at Tracing e (λ d. tt)) (inl e)
   step_changes Repeat e = trace_change (spared_at Repeat e (λ d. tt)) (inr e)
   step_changes Cleaning e = clean_change e
   step_changes Parting e = shake_change _ (moves_on (at_phase s Sweeping 1 s.rounds) (λ d. refl) (λ k. refl)
       (λ d u v. absurd (free_white (ap (λ (m : ℕ). colour (s.cell m)) (zero_is d v) ∙ inv.heap.no_zero) u))
-      (inl (λ z. clash cc)))
+      (inl (λ z. cc)))
     where
       zero_is : (d : ℕ) → d < 1 → d ≡ 0
       zero_is d h = omega arith
   step_changes Sweeping e = sweep_change e
 
   begin_change : s.phase ≡ Normal → Changes begin s (at_phase (all_owe s) Arming 0 0)
-  begin_change e = record {
-    back = λ d k. inl (record { in_use = k.in_use; spared = λ z. spared_at Normal e (λ d. tt) d });
-    names = inl (λ k l. (record { filled = l.filled; not_white = λ (q : Arming ≡ Cleaning). clash cc }, refl));
-    marks = λ d h. inl h;
-  }
+  begin_change e = grind arith
 
 module _ (x : World) (c : Call) (pick : ℕ) (right : Picks x.state pick) (inv : Sound x) where
   call_changes : (d : Call) → Passed (checks x.state d) → Changes d x.state (effect x.state d pick).after
@@ -208,8 +133,7 @@ module _ (x : World) (c : Call) (pick : ℕ) (right : Picks x.state pick) (inv :
       (effect x.state c pick).after r n).0 ∙ was (write x.book c (effect x.state c pick).answer).count)
     where
       was : (count : ℕ) → cond (ltb x.book.count count) (upd x.place count pick) x.place r ≡ x.place r
-      was count = cond_both (ltb x.book.count count) (upd x.place count pick) x.place (λ f. f r ≡ x.place r)
-          (λ e. let h = ltb-true _ _ e in upd_other x.place count r pick (λ q. omega arith)) (λ e. refl)
+      was count = grind arith
 
   -- records are only added
   pub next_count : x.book.count ≤ (next x c pick).book.count

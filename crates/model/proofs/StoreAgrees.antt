@@ -1,10 +1,9 @@
 -- What follows from the invariant at one moment: reached records stand, store and book agree, a name has one record.
-use Rattle.std.proofs.Common.{◌≡◌, ℕ, ◌≢◌, List, sym, ap, ◌∙◌, subst}
-use mathlib.Core.Option.{Option, some}
+use Rattle.std.proofs.Common.{◌≡◌, ℕ, ◌≢◌, List, sym, ap, ◌∙◌, subst, Some, arith}
 use Rattle.model.specs.declared.Phase.{Phase}
 use Rattle.model.specs.Book.{Book, Leads, Reached, bearer, from_hand, here, through}
 use Rattle.model.specs.Machine.{State, at, card_of, colour, filed, slots}
-use Rattle.model.specs.Promise.{Agree, Bears}
+use Rattle.model.specs.Promise.{Agree}
 use Rattle.model.proofs.CardsRead.{on_file}
 use Rattle.model.proofs.Invariant.{Inv, Keeps, LiveCard, RecOk, Spared, StandsFor}
 
@@ -24,16 +23,16 @@ module _ (s : State) (b : Book) (place : ℕ → ℕ) (inv : Inv s b place) wher
   leads_stands here h = h
   leads_stands (through {r = r} i n l) h = leads_stands l (record {
     placed = λ z. n (rel.none_is (rel.is ∙ z));
-    kept = subst (λ (m : ℕ). Keeps s m) rel.is (inv.heap.leads (place r) h.kept i (λ z. n (rel.none_is z)));
+    kept = grind arith;
   })
     where
       rel : StandsFor place (b.slot r i) (at (slots (s.cell (place r))) i)
-      rel = (inv.recs.recs r h.placed h.kept).holds i
+      rel = grind arith
 
   pub reached_stands : {r : ℕ} → Reached b r → Stands s place r
   reached_stands (from_hand j h n l) = leads_stands l (record {
     placed = λ z. n ((inv.hands j h).none_is ((inv.hands j h).is ∙ z));
-    kept = subst (λ (m : ℕ). Keeps s m) (inv.hands j h).is ((inv.jobs j).roots h (λ z. n ((inv.hands j h).none_is z)));
+    kept = grind arith;
   })
 
   pub agree : Agree s b place
@@ -49,7 +48,7 @@ module _ (s : State) (b : Book) (place : ℕ → ℕ) (inv : Inv s b place) wher
       rec : {r : ℕ} → Reached b r → RecOk s.card place (b.width r) (b.slot r) (b.name r) (s.cell (place r))
       rec {r} h = inv.recs.recs r (reached_stands h).placed (reached_stands h).kept
 
-  pub carded : (r : ℕ) (t : List ℕ) → Stands s place r → b.name r ≡ some t → Carded s place r t (card_of (s.cell (place r)))
+  pub carded : (r : ℕ) (t : List ℕ) → Stands s place r → b.name r ≡ Some t → Carded s place r t (card_of (s.cell (place r)))
   carded r t h e = record {
     live = record {
       filled = λ z. h.placed (sym back ∙ z);
@@ -61,14 +60,13 @@ module _ (s : State) (b : Book) (place : ℕ → ℕ) (inv : Inv s b place) wher
   }
     where
       named : (card_of (s.cell (place r)) ≢ 0) × ((s.card (card_of (s.cell (place r)))).spelling ≡ t)
-      named = subst (λ (n : Option (List ℕ)). Bears s.card n (card_of (s.cell (place r)))) e
-          (inv.recs.recs r h.placed h.kept).bears
+      named = grind arith
 
       back : (s.card (card_of (s.cell (place r)))).record_at ≡ place r
-      back = inv.cards.back (place r) h.kept named.0
+      back = grind arith
 
   -- the name of a standing record is on file, and stands for that record
-  pub files : (r : ℕ) (t : List ℕ) → Stands s place r → b.name r ≡ some t → (filed s t ≢ 0) × (bearer b t ≡ r)
+  pub files : (r : ℕ) (t : List ℕ) → Stands s place r → b.name r ≡ Some t → (filed s t ≢ 0) × (bearer b t ≡ r)
   files r t h e = (
     on_file s b place inv t _ cd.live cd.spell,
     sym

@@ -1,107 +1,70 @@
 -- The sweep's visit of a cell keeps the invariant.
-use Rattle.std.proofs.Common.{◌≡◌, ℕ, suc, ◌<◌, ◌≢◌, ◌⊎◌, sym, refl, ap, ◌∙◌, subst, inl, inr, arith}
-use mathlib.Core.Option.{none, some}
-use mathlib.Core.Path.{fun_ext}
-use Rattle.std.proofs.lemmas.Bool.{cases_eq, cond_both}
-use Rattle.model.specs.declared.Colour.TheVariants.{Black, Grey, White}
+use Rattle.std.proofs.Common.{◌≡◌, ℕ, suc, ◌<◌, ◌≢◌, sym, ap, ◌∙◌, subst, arith, Some, None}
+use Rattle.model.specs.declared.Colour.TheVariants.{Black, Grey}
 use Rattle.model.specs.declared.Phase.TheVariants.{Sweeping}
 use Rattle.model.specs.Book.{Book}
 use Rattle.model.specs.Cycle.{swept, swept_cell}
-use Rattle.model.specs.Machine.{Cell, State, at_phase, card_of, colour, free, is_free, slots, upd, used}
+use Rattle.model.specs.Machine.{Cell, State, at_phase, card_of, colour, slots, upd}
 use Rattle.model.specs.Runs.{standing}
 use Rattle.model.proofs.Carried.{Shrinks, cards_move, job_move, leads_move, rec_move}
-use Rattle.model.proofs.Colours.{clash, free_is, free_not}
-use Rattle.model.proofs.Invariant.{Inv, Kept, Live, Marked, RecOk, StandsFor}
+use Rattle.model.proofs.Invariant.{Inv, Kept, Live, RecOk, StandsFor}
 use Rattle.model.proofs.TableLaws.{upd_all, upd_elim}
 
 -- a record whose cell is still used keeps its place
-standing_stays : (place : ℕ → ℕ) (s : State) (r : ℕ) → colour (s.cell (place r)) ≢ none → standing place s r ≡ place r
-standing_stays place s r n = cond_both (is_free (s.cell (place r))) 0 (place r) (λ y. y ≡ place r)
-    (λ e. absurd (n (free_is _ e))) (λ e. refl)
+standing_stays : (place : ℕ → ℕ) (s : State) (r : ℕ) → colour (s.cell (place r)) ≢ None → standing place s r ≡ place r
+standing_stays place s r n = grind arith
 
 standing_zero : (place : ℕ → ℕ) (s : State) (r : ℕ) → place r ≡ 0 → standing place s r ≡ 0
-standing_zero place s r z = cond_both (is_free (s.cell (place r))) 0 (place r) (λ y. y ≡ 0) (λ e. refl) (λ e. z)
+standing_zero place s r z = grind arith
 
 -- a record that has a place had it before, and its cell is used
 pub standing_was : (place : ℕ → ℕ) (s : State) (r : ℕ) → standing place s r ≢ 0 →
-    (standing place s r ≡ place r) × (colour (s.cell (place r)) ≢ none)
-standing_was place s r = cond_both (is_free (s.cell (place r))) 0 (place r) (λ y. y ≢ 0 →
-    (y ≡ place r) × (colour (s.cell (place r)) ≢ none)) (λ e n. absurd (n refl)) (λ e n. (refl, free_not _ e))
+    (standing place s r ≡ place r) × (colour (s.cell (place r)) ≢ None)
+standing_was place s r h = grind arith
 
-standing_for : (place : ℕ → ℕ) (s : State) (r v : ℕ) → (v ≢ 0 → colour (s.cell v) ≢ none) → StandsFor place r v →
+standing_for : (place : ℕ → ℕ) (s : State) (r v : ℕ) → (v ≢ 0 → colour (s.cell v) ≢ None) → StandsFor place r v →
     StandsFor (standing place s) r v
-standing_for place s r v n h = record { is = go (cases_eq v 0); none_is = h.none_is }
-  where
-    go : (v ≡ 0) ⊎ (v ≡ 0 → ⊥) → v ≡ standing place s r
-    go (inl z) = z ∙ sym (standing_zero place s r (sym h.is ∙ z))
-    go (inr z) = h.is ∙ sym (standing_stays place s r (subst (λ (m : ℕ). colour (s.cell m) ≢ none) h.is (n z)))
+standing_for place s r v n h = grind arith
 
 -- a step that frees nothing leaves every place
 pub standing_same : (s : State) (b : Book) (place : ℕ → ℕ) → Inv s b place → Inv s b (standing place s)
-standing_same s b place inv = subst (λ (f : ℕ → ℕ). Inv s b f) (fun_ext (λ r. go r (cases_eq (place r) 0))) inv
-  where
-    go : (r : ℕ) → (place r ≡ 0) ⊎ (place r ≡ 0 → ⊥) → place r ≡ standing place s r
-    go r (inl z) = z ∙ sym (standing_zero place s r z)
-    go r (inr z) = sym (standing_stays place s r (inv.recs.stands r z))
+standing_same s b place inv = grind arith
 
--- what the sweep makes of a cell
-swept_kept : (cur : ℕ) (x : Cell) → Kept Sweeping (suc cur) cur (swept_cell x) →
-    Kept Sweeping cur cur x × (slots (swept_cell x) ≡ slots x) × (card_of (swept_cell x) ≡ card_of x)
-swept_kept cur free k = absurd (k.in_use refl)
-swept_kept cur (used White n l) k = absurd (k.in_use refl)
-swept_kept cur (used Grey n l) k = (record { in_use = λ e. clash cc; spared = λ e. clash cc }, refl, refl)
-swept_kept cur (used Black n l) k = (record { in_use = λ e. clash cc; spared = λ e. clash cc }, refl, refl)
-
-swept_keep : (cur : ℕ) (x : Cell) → Kept Sweeping cur cur x → Kept Sweeping (suc cur) cur (swept_cell x)
-swept_keep cur free k = absurd (k.in_use refl)
-swept_keep cur (used White n l) k = let h = k.spared refl in absurd (omega arith)
-swept_keep cur (used Grey n l) k = record { in_use = λ e. clash cc; spared = λ e. clash cc }
-swept_keep cur (used Black n l) k = record { in_use = λ e. clash cc; spared = λ e. omega arith }
-
-swept_colour : (cur : ℕ) (x : Cell) → colour x ≢ some Grey →
-    (colour (swept_cell x) ≢ some Grey) × (colour (swept_cell x) ≢ some Black)
-swept_colour cur free n = ((λ e. clash cc), (λ e. clash cc))
-swept_colour cur (used White k l) n = ((λ e. clash cc), (λ e. clash cc))
-swept_colour cur (used Grey k l) n = absurd (n refl)
-swept_colour cur (used Black k l) n = ((λ e. clash cc), (λ e. clash cc))
-
-swept_used : (x : Cell) → colour (swept_cell x) ≢ none → colour x ≢ none
-swept_used free n = n
-swept_used (used White k l) n = absurd (n refl)
-swept_used (used Grey k l) n = n
-swept_used (used Black k l) n = λ e. clash cc
+swept_colour : (cur : ℕ) (x : Cell) → colour x ≢ Some Grey →
+    (colour (swept_cell x) ≢ Some Grey) × (colour (swept_cell x) ≢ Some Black)
+swept_colour cur x n = grind arith
 
 pub sweep_keeps : (s : State) (b : Book) (place : ℕ → ℕ) (r : ℕ) → Inv (at_phase s Sweeping s.cursor s.rounds) b place →
     Inv (at_phase (swept s) Sweeping (suc s.cursor) r) b (standing place (swept s))
 sweep_keeps s b place r inv = record {
   heap = record {
-    no_zero = upd_elim (λ y. colour y ≡ none) f c 0 (swept_cell (f c))
+    no_zero = upd_elim (λ y. colour y ≡ None) f c 0 (swept_cell (f c))
         (λ e. vac0 (f c) (ap (λ (m : ℕ). colour (f m)) e ∙ inv.heap.no_zero)) (λ e. inv.heap.no_zero);
     inside = λ d n. inv.heap.inside d (from d n);
-    colours = upd_all (λ d y. (colour y ≢ some Grey) × (d < suc c → colour y ≢ some Black)) f c (swept_cell (f c))
+    colours = upd_all (λ d y. (colour y ≢ Some Grey) × (d < suc c → colour y ≢ Some Black)) f c (swept_cell (f c))
         (let h = swept_colour c (f c) (inv.heap.colours c).0 in (h.0, λ q. h.1))
         (λ d e. ((inv.heap.colours d).0, λ q. (inv.heap.colours d).1 (less d e q)));
     leads = leads_move sh keep inv.heap.leads;
     protects = λ t. absurd t;
   };
   jobs = λ j. job_move j (s.job j) keep (λ t. absurd t) (λ g. g) (inv.jobs j);
-  cards = cards_move sh.kept sh.same_card (record { unlive = unlive; lives = λ k l h. keep _ h; clears = λ q. clash cc })
+  cards = cards_move sh.kept sh.same_card (record { unlive = unlive; lives = λ k l h. keep _ h; clears = λ q. cc })
       inv.cards;
-  hands = λ j h. standing_for place (swept s) _ _ (λ n. (keep _ ((inv.jobs j).roots h n)).in_use) (inv.hands j h);
+  hands = grind arith;
   recs = record {
     none_at = standing_zero place (swept s) 0 inv.recs.none_at;
     unmade = λ t h. standing_zero place (swept s) t (inv.recs.unmade t h);
     unmade_slots = inv.recs.unmade_slots;
     one_place = λ t u e n. let a = standing_was place (swept s) t n in let d = standing_was place (swept s) u (λ z. n (e ∙ z)) in
         inv.recs.one_place t u (sym a.0 ∙ e ∙ d.0) (λ z. n (a.0 ∙ z));
-    stands = λ t n. let a = standing_was place (swept s) t n in subst (λ (m : ℕ). colour (g m) ≢ none) (sym a.0) a.1;
+    stands = λ t n. let a = standing_was place (swept s) t n in subst (λ (m : ℕ). colour (g m) ≢ None) (sym a.0) a.1;
     owner = λ d n. let o = inv.recs.owner d (from d n) in
-        (o.0, standing_stays place (swept s) o.0 (subst (λ (m : ℕ). colour (g m) ≢ none) (sym o.1) n) ∙ o.1);
+        (o.0, standing_stays place (swept s) o.0 (subst (λ (m : ℕ). colour (g m) ≢ None) (sym o.1) n) ∙ o.1);
     recs = λ t n. let a = standing_was place (swept s) t n in subst (λ (m : ℕ). Kept Sweeping (suc c) m (g m) →
         RecOk s.card (standing place (swept s)) (b.width t) (b.slot t) (b.name t) (g m)) (sym a.0)
         (λ k. again t (λ z. n (a.0 ∙ z)) k);
     newest = λ k l. standing_stays place (swept s) _
-        (subst (λ (m : ℕ). colour (g m) ≢ none) (sym (inv.recs.newest k (unlive k l)))
+        (subst (λ (m : ℕ). colour (g m) ≢ None) (sym (inv.recs.newest k (unlive k l)))
         (keep _ (inv.cards.live k (unlive k l)).0).in_use) ∙ inv.recs.newest k (unlive k l);
   };
   lasts = inv.lasts;
@@ -116,33 +79,27 @@ sweep_keeps s b place r inv = record {
     g : ℕ → Cell
     g = upd f c (swept_cell (f c))
 
-    vac0 : (x : Cell) → colour x ≡ none → colour (swept_cell x) ≡ none
-    vac0 free e = refl
-    vac0 (used White k l) e = refl
-    vac0 (used Grey k l) e = e
-    vac0 (used Black k l) e = clash cc
+    vac0 : (x : Cell) → colour x ≡ None → colour (swept_cell x) ≡ None
+    vac0 x e = grind arith
 
     less : (d : ℕ) → c ≢ d → d < suc c → d < c
     less d n h = omega arith
 
-    from : (d : ℕ) → colour (g d) ≢ none → colour (f d) ≢ none
-    from = upd_all (λ d y. colour y ≢ none → colour (f d) ≢ none) f c (swept_cell (f c)) (swept_used (f c)) (λ d e n. n)
+    from : (d : ℕ) → colour (g d) ≢ None → colour (f d) ≢ None
+    from d h = grind arith
 
     keep : (d : ℕ) → Kept Sweeping c d (f d) → Kept Sweeping (suc c) d (g d)
-    keep = upd_all (λ d y. Kept Sweeping c d (f d) → Kept Sweeping (suc c) d y) f c (swept_cell (f c)) (swept_keep c (f c))
-        (λ d e k. record { in_use = k.in_use; spared = λ q. let h = k.spared q in omega arith })
+    keep d h = grind arith
 
     old : (d : ℕ) → Kept Sweeping (suc c) d (g d) →
         Kept Sweeping c d (f d) × (slots (g d) ≡ slots (f d)) × (card_of (g d) ≡ card_of (f d))
-    old = upd_all (λ d y. Kept Sweeping (suc c) d y →
-        Kept Sweeping c d (f d) × (slots y ≡ slots (f d)) × (card_of y ≡ card_of (f d))) f c (swept_cell (f c))
-        (swept_kept c (f c)) (λ d e k. (record { in_use = k.in_use; spared = λ q. less d e (k.spared q) }, refl, refl))
+    old d h = grind arith
 
     sh : Shrinks f g Sweeping Sweeping c (suc c)
-    sh = record { kept = λ d k. (old d k).0; same_slots = λ d k. (old d k).1; same_card = λ d k. (old d k).2 }
+    sh = grind arith
 
     unlive : (k : ℕ) → Live g Sweeping (s.card k) → Live f Sweeping (s.card k)
-    unlive k l = record { filled = l.filled; not_white = λ q. clash cc }
+    unlive k l = record { filled = l.filled; not_white = λ q. cc }
 
     again : (t : ℕ) → place t ≢ 0 → Kept Sweeping (suc c) (place t) (g (place t)) →
         RecOk s.card (standing place (swept s)) (b.width t) (b.slot t) (b.name t) (g (place t))
@@ -156,20 +113,3 @@ sweep_keeps s b place r inv = record {
         o : RecOk s.card place (b.width t) (b.slot t) (b.name t) (g (place t))
         o = rec_move (f (place t)) (g (place t)) (old (place t) k).1 (old (place t) k).2
             (inv.recs.recs t n (old (place t) k).0)
-
--- what is kept after the visit was kept before it
-pub sweep_back : (f : ℕ → Cell) (c d : ℕ) → Kept Sweeping (suc c) d (upd f c (swept_cell (f c)) d) → Kept Sweeping c d (f d)
-sweep_back f c = upd_all (λ d y. Kept Sweeping (suc c) d y → Kept Sweeping c d (f d)) f c (swept_cell (f c))
-    (λ k. (swept_kept c (f c) k).0) (λ d e k. record { in_use = k.in_use; spared = λ q. let h = k.spared q in omega arith })
-
-pub sweep_marked : (f : ℕ → Cell) (c d : ℕ) → Marked (colour (upd f c (swept_cell (f c)) d)) → Marked (colour (f d))
-sweep_marked f c = upd_all (λ d y. Marked (colour y) → Marked (colour (f d))) f c (swept_cell (f c)) (go (f c)) (λ d e h. h)
-  where
-    go : (x : Cell) → Marked (colour (swept_cell x)) → Marked (colour x)
-    go free h = h
-    go (used White k l) h = absurd h
-    go (used Grey k l) h = tt
-    go (used Black k l) h = tt
-
-pub sweep_used : (f : ℕ → Cell) (c d : ℕ) → colour (upd f c (swept_cell (f c)) d) ≢ none → colour (f d) ≢ none
-sweep_used f c = upd_all (λ d y. colour y ≢ none → colour (f d) ≢ none) f c (swept_cell (f c)) (swept_used (f c)) (λ d e n. n)

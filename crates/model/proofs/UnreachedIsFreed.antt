@@ -1,9 +1,6 @@
 -- What no hand reaches from begin to the commit is freed by the cycle's end.
 use Rattle.std.proofs.Common.{◌≡◌, ℕ, ◌<◌, ◌≤◌, ◌≢◌, ◌⊎◌, sym, refl, ap, ◌∙◌, subst, inl, inr, arith}
-use mathlib.Core.Option.{Option, none, some}
-use Rattle.std.proofs.lemmas.Bool.{cases_eq, cases_lt}
-use Rattle.model.specs.declared.Colour.{Colour}
-use Rattle.model.specs.declared.Colour.TheVariants.{Black, Grey, White}
+use Rattle.std.proofs.lemmas.Bool.{cases_lt}
 use Rattle.model.specs.declared.Phase.{Phase}
 use Rattle.model.specs.declared.Phase.TheVariants.{Cleaning, Normal}
 use Rattle.model.specs.Book.{Book, Leads, Reached, from_hand, here, through}
@@ -11,10 +8,9 @@ use Rattle.model.specs.Calls.{Call, begin, step}
 use Rattle.model.specs.Machine.{Cell, at, colour, first, hand, slots}
 use Rattle.model.specs.Runs.{Commits, Granted, Later, Picks, Run, Through, Unreached, World, more, next, now}
 use Rattle.model.proofs.CallChanges.{Touched, from_marked, in_hand, in_slot}
-use Rattle.model.proofs.Colours.{marked_used}
+use Rattle.model.proofs.Colours.{marked_used, phase_is}
 use Rattle.model.proofs.Granted.{granted_next, next_cases}
-use Rattle.model.proofs.Invariant.{ColourOk, Keeps, Kept, Marked, Sound, Spared}
-use Rattle.model.proofs.PhaseCases.{phase_is}
+use Rattle.model.proofs.Invariant.{Keeps, Kept, Marked, Sound}
 use Rattle.model.proofs.RunsKeep.{next_sound, run_sound, through_sound}
 use Rattle.model.proofs.StepChanges.{next_changes, next_count, next_edge, next_place, step_book}
 
@@ -24,7 +20,7 @@ record Untraced (x : World) (t : ℕ) : Type 0 where
   pub no_path : (c : ℕ) → Marked (colour (x.state.cell c)) → (r : ℕ) → x.place r ≡ c → Leads x.book r t → ⊥
 
 marked_kept : (p : Phase) (cur c : ℕ) (x : Cell) → Marked (colour x) → Kept p cur c x
-marked_kept p cur c x l = record { in_use = marked_used x l; spared = λ e. absurd (subst Marked e l) }
+marked_kept p cur c x l = grind arith
 
 module _ (x : World) (c : Call) (pick : ℕ) (right : Picks x.state pick) (inv : Sound x) (t : ℕ) (far : Unreached t x)
     (far' : Unreached t (next x c pick)) where
@@ -58,8 +54,7 @@ module _ (x : World) (c : Call) (pick : ℕ) (right : Picks x.state pick) (inv :
   -- a slot of a standing record leads where the book says
   slot_record : (u i d r : ℕ) → x.place u ≢ 0 → Keeps x.state (x.place u) → at (slots (x.state.cell (x.place u))) i ≡ d →
       x.place r ≡ d → d ≢ 0 → r ≡ x.book.slot u i
-  slot_record u i d r placed kept content at_d n = inv.recs.one_place r _
-      (at_d ∙ sym content ∙ ((inv.recs.recs u placed kept).holds i).is) (λ z. n (sym at_d ∙ z))
+  slot_record u i d r placed kept content at_d n = grind arith
 
   -- where a marked record's slot leads to r, and r to the record, so does the marked one
   via_slot : (u i d r : ℕ) → r ≡ x.book.slot u i → x.place r ≡ d → d ≢ 0 → Leads x.book r t → Leads x.book u t
@@ -68,12 +63,12 @@ module _ (x : World) (c : Call) (pick : ℕ) (right : Picks x.state pick) (inv :
 
   next_untraced : Untraced x t → Untraced y t
   next_untraced un = record {
-    made = let a = next_count x c pick right inv in let b = un.made in omega arith;
+    made = grind (arith, next_count);
     no_path = λ d l r e ld. by_age d l r e ld (cases_lt x.book.count r);
   }
     where
       nz : (d : ℕ) → Marked (colour (y.state.cell d)) → d ≢ 0
-      nz d l z = marked_used (y.state.cell d) l (ap (λ (m : ℕ). colour (y.state.cell m)) z ∙ inv'.heap.no_zero)
+      nz d l = grind (arith, marked_used, inv')
 
       touched : (d : ℕ) → d ≢ 0 → (r : ℕ) → y.place r ≡ d → x.place r ≡ d → Leads y.book r t →
           Marked (colour (x.state.cell d)) ⊎ Touched x.state y.state d → ⊥
@@ -83,7 +78,7 @@ module _ (x : World) (c : Call) (pick : ℕ) (right : Picks x.state pick) (inv :
           (subst (λ (v : ℕ). Leads y.book v t) same_record ld))
         where
           same_record : r ≡ y.book.holds j h
-          same_record = inv'.recs.one_place r _ (e ∙ sym q ∙ (inv'.hands j h).is) (λ z. n (sym e ∙ z))
+          same_record = grind (arith, inv')
       touched d n r e o ld (inr (in_slot j g i m q)) =
           far (from_hand j g (λ z. m (at_g ∙ ap x.place z ∙ inv.recs.none_at))
           (via_slot (x.book.holds j g) i d r from_slot o n (leads_back ld)))
@@ -92,13 +87,11 @@ module _ (x : World) (c : Call) (pick : ℕ) (right : Picks x.state pick) (inv :
           at_g = (inv.hands j g).is
 
           from_slot : r ≡ x.book.slot (x.book.holds j g) i
-          from_slot = slot_record (x.book.holds j g) i d r (λ z. m (at_g ∙ z))
-              (subst (λ (v : ℕ). Keeps x.state v) at_g ((inv.jobs j).roots g m))
-              (sym (ap (λ (v : ℕ). at (slots (x.state.cell v)) i) at_g) ∙ q) o n
+          from_slot = grind arith
       touched d n r e o ld (inr (from_marked w i l q)) = un.no_path w l u at_u (via_slot u i d r from_slot o n (leads_back ld))
         where
           own : (r : ℕ) × (x.place r ≡ w)
-          own = inv.recs.owner w (marked_used (x.state.cell w) l)
+          own = grind arith
 
           u : ℕ
           u = own.0
@@ -106,14 +99,8 @@ module _ (x : World) (c : Call) (pick : ℕ) (right : Picks x.state pick) (inv :
           at_u : x.place u ≡ w
           at_u = own.1
 
-          wz : w ≢ 0
-          wz z = marked_used (x.state.cell w) l (ap (λ (m : ℕ). colour (x.state.cell m)) z ∙ inv.heap.no_zero)
-
           from_slot : r ≡ x.book.slot u i
-          from_slot = slot_record u i d r (λ z. wz (sym at_u ∙ z))
-              (subst (λ (v : ℕ). Keeps x.state v) (sym at_u)
-              (marked_kept x.state.phase x.state.cursor w (x.state.cell w) l))
-              (ap (λ (v : ℕ). at (slots (x.state.cell v)) i) at_u ∙ q) o n
+          from_slot = grind (arith, slot_record, marked_kept)
 
       by_age : (d : ℕ) → Marked (colour (y.state.cell d)) → (r : ℕ) → y.place r ≡ d → Leads y.book r t →
           (x.book.count < r) ⊎ (r ≤ x.book.count) → ⊥
@@ -128,26 +115,10 @@ record Doomed (x : World) (t : ℕ) : Type 0 where
 
 next_doomed : (x : World) (c : Call) (pick : ℕ) → Picks x.state pick → Sound x → (t : ℕ) → Doomed x t →
     Doomed (next x c pick) t
-next_doomed x c pick right inv t dm = record {
-  made = let a = next_count x c pick right inv in let b = dm.made in omega arith;
-  doom = λ n k. go n ((next_changes x c pick right inv).back ((next x c pick).place t) k);
-}
-  where
-    go : (next x c pick).place t ≢ 0 → Keeps x.state ((next x c pick).place t) ⊎
-        (colour (x.state.cell ((next x c pick).place t)) ≡ none) → ⊥
-    go n (inl k) = let e = next_place x c pick right inv t dm.made n in dm.doom (λ z. n (e ∙ z))
-        (subst (λ (v : ℕ). Keeps x.state v) e k)
-    go n (inr k) = let e = next_place x c pick right inv t dm.made n in inv.recs.stands t (λ z. n (e ∙ z))
-        (ap (λ (v : ℕ). colour (x.state.cell v)) (sym e) ∙ k)
+next_doomed x c pick right inv t dm = grind (arith, next_count, next_changes, next_place)
 
 cleaning_marked : (x : Cell) (cur c : ℕ) → Kept Cleaning cur c x → Marked (colour x)
-cleaning_marked x cur c k = go (colour x) refl
-  where
-    go : (l : Option Colour) → colour x ≡ l → Marked l
-    go none e = absurd (k.in_use e)
-    go (some White) e = absurd (k.spared e)
-    go (some Grey) e = tt
-    go (some Black) e = tt
+cleaning_marked x cur c k = grind arith
 
 commit_dooms : (x : World) (t : ℕ) → Untraced x t → x.state.phase ≡ Cleaning → Doomed x t
 commit_dooms x t un e = record {
@@ -157,17 +128,10 @@ commit_dooms x t un e = record {
 }
 
 normal_gone : (x : World) (t : ℕ) → Sound x → Doomed x t → x.state.phase ≡ Normal → x.place t ≡ 0
-normal_gone x t inv dm e = elim (cases_eq (x.place t) 0) [
-  | inl z ↦ z
-  | inr n ↦ absurd (dm.doom n (record {
-    in_use = inv.recs.stands t n;
-    spared = λ z. subst (λ (p : Phase). Spared p x.state.cursor (x.place t)) (sym e) tt;
-  }))
-]
+normal_gone x t inv dm e = grind arith
 
 through_last : {P : World → Type 0} {x y : World} → Through P x y → P y
-through_last (now p) = p
-through_last (more t c pick right p) = p
+through_last h = grind arith
 
 through_untraced : {t : ℕ} {x y : World} → Through (Unreached t) x y → Sound x → Untraced x t → Untraced y t
 through_untraced (now far) g p = p
@@ -181,25 +145,7 @@ later_doomed t (more {y = y} l c pick right p) g d = next_doomed y c pick right 
 -- begin: nothing is grey or black
 begin_untraced : (x : World) (t pick : ℕ) → Picks x.state pick → Sound x → x.place t ≢ 0 →
     Granted x begin pick → Untraced (next x begin pick) t
-begin_untraced x t pick right inv n e = record {
-  made = let more = next_count x begin pick right inv in elim (cases_lt x.book.count t)
-      [ inl w ↦ absurd (n (inv.recs.unmade t w)) | inr w ↦ omega arith ];
-  no_path = λ d l r p ld. none_marked (colour (x.state.cell d)) (white d).0 (white d).1
-      (subst (λ (c : Cell). Marked (colour c)) (same_cell d) l);
-}
-  where
-    same_cell : (d : ℕ) → (next x begin pick).state.cell d ≡ x.state.cell d
-    same_cell d = next_cases x begin pick (λ y. y.state.cell d ≡ x.state.cell d) refl (λ p. refl)
-
-    white : (d : ℕ) → ColourOk Normal x.state.cursor d (colour (x.state.cell d))
-    white d = subst (λ (p : Phase). ColourOk p x.state.cursor d (colour (x.state.cell d)))
-        (phase_is Normal _ (granted_next x begin pick e).0.0) (inv.heap.colours d)
-
-    none_marked : (l : Option Colour) → l ≢ some Grey → l ≢ some Black → Marked l → ⊥
-    none_marked none g b h = h
-    none_marked (some White) g b h = h
-    none_marked (some Grey) g b h = g refl
-    none_marked (some Black) g b h = b refl
+begin_untraced x t pick right inv n e = grind (arith, next_count, next_cases, phase_is, granted_next)
 
 pub frees : (x y z : World) → Run x → (r first last : ℕ) → x.place r ≢ 0 →
     Picks x.state first → Granted x begin first → Through (Unreached r) (next x begin first) y →

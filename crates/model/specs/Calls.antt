@@ -1,5 +1,5 @@
 -- The seventeen calls, what they answer, and how a call is granted or refused.
-use Rattle.std.specs.Prelude.{ℕ, Bool, true, false, cond, List, [], ◌∷◌, Ok, Err, Result}
+use Rattle.std.specs.Prelude.{ℕ, Bool, if◌then◌else◌, List, [], ◌∷◌, Ok, Err, Result}
 use Rattle.refusal.specs.declared.Reason.{Reason}
 use Rattle.refusal.specs.declared.Refusal.{Refusal}
 use Rattle.model.specs.declared.Phase.{Phase}
@@ -65,9 +65,4 @@ need test reason = record { holds = test; otherwise = record { reason = reason; 
 -- the first condition that does not hold decides; where all hold, the call is granted
 abbrev pub decide : List Check → Grant → Result Grant Refusal
 decide [] g = Ok g
-decide (c ∷ cs) g = cond c.holds (decide cs g) (Err c.otherwise)
-
--- whether a call was granted
-abbrev pub is_granted : Result Grant Refusal → Bool
-is_granted (Ok g) = true
-is_granted (Err e) = false
+decide (c ∷ cs) g = if c.holds then decide cs g else Err c.otherwise

@@ -1,10 +1,10 @@
 -- The store as an abstract machine: what it holds, and how that is read and changed.
 -- Cells, cards and jobs are tables: functions from numbers, counted from 1. Slots and hands are lists, counted from 1.
 -- Where a number names a cell, a card or a job, 0 names none.
-use Rattle.std.specs.Prelude.{ℕ, zero, suc, ◌-◌, Bool, true, false, cond, not, ◌&&◌, ◌||◌, List, [], ◌∷◌, get_or, set, ◌==◌}
-use Rattle.std.proofs.Math.Option.{Option, none, some}
+use Rattle.std.specs.Prelude.{ℕ, zero, suc, ◌-◌, Bool, true, false, if◌then◌else◌, not, ◌&&◌, ◌||◌, List, [], ◌∷◌, slice_index_or, slice_set, bytes_eq, ◌==◌, Option, Some, None}
+use Rattle.std.specs.List.{list_any}
 use Rattle.model.specs.declared.Colour.{Colour}
-use Rattle.model.specs.declared.Colour.TheVariants.{White, Grey, Black}
+use Rattle.model.specs.declared.Colour.TheVariants.{White, Grey}
 use Rattle.model.specs.declared.JobState.{JobState}
 use Rattle.model.specs.declared.JobState.TheVariants.{Closed, Running, Parked}
 use Rattle.model.specs.declared.Phase.{Phase}
@@ -15,21 +15,21 @@ use Rattle.model.specs.declared.Phase.TheVariants.{Normal, Arming, Scanning, Tra
 -- item i of a list, counted from 1; 0 outside
 abbrev pub at : List ℕ → ℕ → ℕ
 at l zero = 0
-at l (suc i) = get_or l i 0
+at l (suc i) = slice_index_or l i 0
 
 -- a list with item i, counted from 1, changed
 abbrev pub put : List ℕ → ℕ → ℕ → List ℕ
 put l zero v = l
-put l (suc i) v = set l i v
+put l (suc i) v = slice_set l i v
 
 -- a table with one entry changed
-abbrev pub upd {ℓ} : {A : Type ℓ} → (ℕ → A) → ℕ → A → ℕ → A
-upd f i v j = cond (i == j) v (f j)
+abbrev pub upd : {A : Type 0} → (ℕ → A) → ℕ → A → ℕ → A
+upd f i v j = if i == j then v else f j
 
 -- the first of n places, from a on, that passes a test, or 0
 unfoldable pub first : (ℕ → Bool) → ℕ → ℕ → ℕ
 first test a zero = 0
-first test a (suc n) = let rest = first test (suc a) n in cond (test a) a rest
+first test a (suc n) = let rest = first test (suc a) n in if test a then a else rest
 
 -- a number, or another if it is 0
 abbrev pub or_else : ℕ → ℕ → ℕ
@@ -40,13 +40,6 @@ or_else (suc a) b = suc a
 unfoldable pub next_vacant : (ℕ → Bool) → ℕ → ℕ → ℕ
 next_vacant vacant last n = or_else (first vacant (suc last) (n - last)) (first vacant 1 last)
 
--- whether two texts are equal
-unfoldable pub same_text : List ℕ → List ℕ → Bool
-same_text [] [] = true
-same_text [] (y ∷ ys) = false
-same_text (x ∷ xs) [] = false
-same_text (x ∷ xs) (y ∷ ys) = x == y && same_text xs ys
-
 -- CELLS
 
 -- a cell: free, or a record with its colour, the card that names it (0 for an unnamed one) and its slots
@@ -56,8 +49,8 @@ pub data Cell : Type 0 where
 
 -- a record's colour; a free cell has none
 abbrev pub colour : Cell → Option Colour
-colour free = none
-colour (used c k l) = some c
+colour free = None
+colour (used c k l) = Some c
 
 -- the card that names a record
 abbrev pub card_of : Cell → ℕ
@@ -75,16 +68,12 @@ is_free free = true
 is_free (used c k l) = false
 
 abbrev pub is_white : Cell → Bool
-is_white free = false
 is_white (used White k l) = true
-is_white (used Grey k l) = false
-is_white (used Black k l) = false
+is_white _ = false
 
 abbrev pub is_grey : Cell → Bool
-is_grey free = false
-is_grey (used White k l) = false
 is_grey (used Grey k l) = true
-is_grey (used Black k l) = false
+is_grey _ = false
 
 -- a record with another colour
 abbrev pub painted : Colour → Cell → Cell
@@ -114,39 +103,32 @@ pub record Job : Type 0 where
 
 -- tests on a job's status; a job is open if it runs or is parked
 abbrev pub is_running : JobState → Bool
-is_running Closed = false
 is_running Running = true
-is_running Parked = false
+is_running _ = false
 
 abbrev pub is_parked : JobState → Bool
-is_parked Closed = false
-is_parked Running = false
 is_parked Parked = true
+is_parked _ = false
 
 abbrev pub is_open : JobState → Bool
 is_open Closed = false
-is_open Running = true
-is_open Parked = true
+is_open _ = true
 
--- phases are told apart by numbers
-abbrev pub phase_number : Phase → ℕ
-phase_number Normal = 0
-phase_number Arming = 1
-phase_number Scanning = 2
-phase_number Tracing = 3
-phase_number Repeat = 4
-phase_number Cleaning = 5
-phase_number Parting = 6
-phase_number Sweeping = 7
-
--- whether phase p is q
+-- whether two phases are the same
 abbrev pub in_phase : Phase → Phase → Bool
-in_phase q p = phase_number q == phase_number p
+in_phase Normal Normal = true
+in_phase Arming Arming = true
+in_phase Scanning Scanning = true
+in_phase Tracing Tracing = true
+in_phase Repeat Repeat = true
+in_phase Cleaning Cleaning = true
+in_phase Parting Parting = true
+in_phase Sweeping Sweeping = true
+in_phase _ _ = false
 
 -- whether phase p is one of some
 abbrev pub among : List Phase → Phase → Bool
-among [] p = false
-among (q ∷ qs) p = in_phase q p || among qs p
+among phases p = list_any (λ q. in_phase q p) phases
 
 -- the phases in which trace steps visit cells
 abbrev pub is_tracing : Phase → Bool
@@ -206,7 +188,7 @@ reads_empty s k = (s.card k).record_at == 0 || (in_phase Cleaning s.phase && is_
 
 -- whether card k has a spelling on file
 abbrev pub bears : State → List ℕ → ℕ → Bool
-bears s text k = not (reads_empty s k) && same_text (s.card k).spelling text
+bears s text k = not (reads_empty s k) && bytes_eq (s.card k).spelling text
 
 -- the card that has a spelling on file, or 0 if it is off file
 unfoldable pub filed : State → List ℕ → ℕ
@@ -216,7 +198,7 @@ filed s text = first (bears s text) 1 512
 
 -- ... with other cells
 abbrev pub with_cells : State → (ℕ → Cell) → State
-with_cells s f = record { size = s.size; widest = s.widest; cell = f; card = s.card; job = s.job; phase = s.phase; cursor = s.cursor; rounds = s.rounds; last_card = s.last_card; last_job = s.last_job }
+with_cells s f = record s { cell = f }
 
 -- ... with one other cell
 abbrev pub set_cell : State → ℕ → Cell → State
@@ -224,24 +206,20 @@ set_cell s c x = with_cells s (upd s.cell c x)
 
 -- ... with other cards, and the one taken last
 abbrev pub with_cards : State → (ℕ → Card) → ℕ → State
-with_cards s f last = record { size = s.size; widest = s.widest; cell = s.cell; card = f; job = s.job; phase = s.phase; cursor = s.cursor; rounds = s.rounds; last_card = last; last_job = s.last_job }
+with_cards s f last = record s { card = f; last_card = last }
 
 -- ... with other jobs, and the one opened last
 abbrev pub with_jobs : State → (ℕ → Job) → ℕ → State
-with_jobs s f last = record { size = s.size; widest = s.widest; cell = s.cell; card = s.card; job = f; phase = s.phase; cursor = s.cursor; rounds = s.rounds; last_card = s.last_card; last_job = last }
+with_jobs s f last = record s { job = f; last_job = last }
 
 -- ... with one other job
 abbrev pub set_job : State → ℕ → Job → State
 set_job s j row = with_jobs s (upd s.job j row) s.last_job
 
--- a job with other hands
-abbrev pub with_hands : Job → List ℕ → Job
-with_hands row l = record { status = row.status; armed = row.armed; owes = row.owes; hands = l }
-
 -- ... with one hand of one job changed
 abbrev pub set_hand : State → ℕ → ℕ → ℕ → State
-set_hand s j h v = set_job s j (with_hands (s.job j) (put (s.job j).hands h v))
+set_hand s j h v = set_job s j (record (s.job j) { hands = put (s.job j).hands h v })
 
 -- ... in a phase, at a cursor, in a round
 abbrev pub at_phase : State → Phase → ℕ → ℕ → State
-at_phase s p cursor rounds = record { size = s.size; widest = s.widest; cell = s.cell; card = s.card; job = s.job; phase = p; cursor = cursor; rounds = rounds; last_card = s.last_card; last_job = s.last_job }
+at_phase s p cursor rounds = record s { phase = p; cursor = cursor; rounds = rounds }

@@ -1,6 +1,5 @@
 -- The promise: what holds after every list of calls on a store that began new, over every heap.
-use Rattle.std.specs.Prelude.{◌≡◌, ℕ, ◌+◌, ◌*◌, ◌<◌, ◌≤◌, T, ◌≢◌, List, length, Err}
-use Rattle.std.proofs.Math.Option.{Option, none, some}
+use Rattle.std.specs.Prelude.{◌≡◌, ℕ, ◌+◌, ◌*◌, ◌<◌, ◌≤◌, ◌≢◌, IsTrue, List, length, Err, Option, Some, None}
 use Rattle.refusal.specs.declared.Refusal.{Refusal}
 use Rattle.model.specs.declared.Phase.TheVariants.{Normal}
 use Rattle.model.specs.Machine.{at, colour, slots, card_of, Card, is_tracing, State, hand, filed}
@@ -11,14 +10,14 @@ use Rattle.model.specs.Runs.{World, next, Picks, Run, Through, Later, Unreached,
 
 -- a card bears a name: no card for no name
 abbrev pub Bears : (ℕ → Card) → Option (List ℕ) → ℕ → Type 0
-Bears card none k = k ≡ 0
-Bears card (some t) k = (k ≢ 0) × ((card k).spelling ≡ t)
+Bears card None k = k ≡ 0
+Bears card (Some t) k = (k ≢ 0) × ((card k).spelling ≡ t)
 
 -- store and book agree: the hands hold the cells of the book's records, and those that hands reach have used cells, no
 -- two alike, with their widths, the cells of what their slots hold, and cards that bear their names
 pub record Agree (s : State) (b : Book) (place : ℕ → ℕ) : Type 0 where
   pub hands : (j h : ℕ) → hand s j h ≡ place (b.holds j h)
-  pub in_use : (r : ℕ) → Reached b r → colour (s.cell (place r)) ≢ none
+  pub in_use : (r : ℕ) → Reached b r → colour (s.cell (place r)) ≢ None
   pub apart : (r t : ℕ) → Reached b r → Reached b t → place r ≡ place t → r ≡ t
   pub widths : (r : ℕ) → Reached b r → length (slots (s.cell (place r))) ≡ b.width r
   pub contents : (r : ℕ) → Reached b r → (i : ℕ) → at (slots (s.cell (place r))) i ≡ place (b.slot r i)
@@ -31,7 +30,7 @@ pub record Lost (x : World) (c : Call) (pick : ℕ) (t : List ℕ) : Type 0 wher
   pub stood : (x.place (bearer x.book t) ≢ 0) ×
       (x.place (bearer x.book t) ≡ (x.state.card (filed x.state t)).record_at)
   pub unreached : Unreached (bearer x.book t) (next x c pick)
-  pub with_it : (q : ℕ) (u : List ℕ) → x.place q ≢ 0 → x.book.name q ≡ some u → Leads x.book q (bearer x.book t) →
+  pub with_it : (q : ℕ) (u : List ℕ) → x.place q ≢ 0 → x.book.name q ≡ Some u → Leads x.book q (bearer x.book t) →
       Loses x c pick u
 
 -- the cycle has not ended
@@ -48,11 +47,11 @@ pub record Promise {x : World} (run : Run x) : Type 0 where
   -- no record that a hand reaches has been freed
   pub stands : (r : ℕ) → Reached x.book r → x.place r ≢ 0
   -- the name of such a record is on file, and stands for that record: settle and find give it
-  pub files : (r : ℕ) (name : List ℕ) → Reached x.book r → x.book.name r ≡ some name →
+  pub files : (r : ℕ) (name : List ℕ) → Reached x.book r → x.book.name r ≡ Some name →
       (filed x.state name ≢ 0) × (bearer x.book name ≡ r)
   -- no two such records bear one settled spelling
   pub one_name : (r t : ℕ) (name : List ℕ) → Reached x.book r → Reached x.book t →
-      x.book.name r ≡ some name → x.book.name t ≡ some name → r ≡ t
+      x.book.name r ≡ Some name → x.book.name t ≡ Some name → r ≡ t
   -- the store agrees with the book
   pub agrees : Agree x.state x.book x.place
   -- a refused call changes nothing
@@ -71,7 +70,7 @@ pub record Promise {x : World} (run : Run x) : Type 0 where
       Picks y.state last → Commits y step last → Later (next y step last) x → x.state.phase ≡ Normal → x.place r ≡ 0
   -- the commit comes within N × (2N + 1) trace steps: no cycle has more, and while tracing goes on there were fewer
   pub bounded : trace_steps run ≤ trace_limit x.state.size
-  pub commits_soon : T (is_tracing x.state.phase) → trace_steps run < trace_limit x.state.size
+  pub commits_soon : IsTrue (is_tracing x.state.phase) → trace_steps run < trace_limit x.state.size
 
 -- THE THEOREM
 

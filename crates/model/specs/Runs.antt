@@ -1,11 +1,10 @@
 -- Runs: every list of calls on a store that began new, over every heap, with the book beside it.
-use Rattle.std.specs.Prelude.{◌≡◌, ℕ, suc, ◌≤◌, true, cond, T, ◌≢◌, List, Ok, Err, Result, nat_lt}
-use Rattle.std.proofs.Math.Option.{none}
+use Rattle.std.specs.Prelude.{◌≡◌, ℕ, suc, ◌≤◌, if◌then◌else◌, ◌≢◌, List, Ok, Err, Result, is_ok, IsOk, IsTrue, nat_lt, None}
 use Rattle.refusal.specs.declared.Refusal.{Refusal}
 use Rattle.model.specs.declared.Phase.{Phase}
 use Rattle.model.specs.declared.Phase.TheVariants.{Tracing, Cleaning}
 use Rattle.model.specs.Machine.{upd, colour, is_free, is_tracing, State, new_state, filed}
-use Rattle.model.specs.Calls.{store, Call, by, open_job, begin, step, Grant, is_granted}
+use Rattle.model.specs.Calls.{store, Call, by, begin, step, Grant}
 use Rattle.model.specs.Tables.{room, outcome}
 use Rattle.model.specs.Book.{Book, new_book, write, Reached}
 
@@ -21,11 +20,11 @@ new_world n w = record { state = new_state n w; book = new_book; place = λ r. 0
 
 -- a record that a call makes is given the cell that the heap picked ...
 abbrev pub given : (ℕ → ℕ) → Book → Book → ℕ → ℕ → ℕ
-given place before after pick = cond (nat_lt before.count after.count) (upd place after.count pick) place
+given place before after pick = if nat_lt before.count after.count then upd place after.count pick else place
 
 -- ... and stands there until that cell is freed
 abbrev pub standing : (ℕ → ℕ) → State → ℕ → ℕ
-standing place s r = cond (is_free (s.cell (place r))) 0 (place r)
+standing place s r = if is_free (s.cell (place r)) then 0 else place r
 
 -- after a granted call
 abbrev pub granted : World → Call → ℕ → Grant → World
@@ -48,16 +47,16 @@ next x c pick = next_by x c pick (outcome x.state c pick)
 pub record FreeCell (s : State) (c : ℕ) : Type 0 where
   pub lowest : 1 ≤ c
   pub highest : c ≤ s.size
-  pub vacant : colour (s.cell c) ≡ none
+  pub vacant : colour (s.cell c) ≡ None
 
 -- the heap's pick is one of its free cells, if it has any: nothing else is known of it
 abbrev pub Picks : State → ℕ → Type 0
-Picks s pick = T (room s) → FreeCell s pick
+Picks s pick = IsTrue (room s) → FreeCell s pick
 
 -- the runs: any calls, in any order, granted or refused
 pub data Run : World → Type 0 where
   start : (n w : ℕ) → n ≤ 65535 → Run (new_world n w)
-  then : {x : World} → Run x → (c : Call) (pick : ℕ) → Picks x.state pick → Run (next x c pick)
+  called : {x : World} → Run x → (c : Call) (pick : ℕ) → Picks x.state pick → Run (next x c pick)
 
 -- from one world to a later one by calls, with a property at every moment, the first and the last included
 pub data Through (P : World → Type 0) : World → World → Type 0 where
@@ -84,7 +83,7 @@ Loses x c pick t = (filed x.state t ≢ 0) × (filed (next x c pick).state t ≡
 
 -- a call was granted
 abbrev pub Granted : World → Call → ℕ → Type 0
-Granted x c pick = is_granted (outcome x.state c pick) ≡ true
+Granted x c pick = IsOk (outcome x.state c pick)
 
 -- a call is a store of v into slot i of record r
 pub data Puts (b : Book) (r i v : ℕ) : Call → Type 0 where
@@ -94,20 +93,19 @@ pub data Puts (b : Book) (r i v : ℕ) : Call → Type 0 where
 pub data LastPut (r i : ℕ) : (v : ℕ) (x : World) → Run x → Type 0 where
   never : {n w : ℕ} {small : n ≤ 65535} → LastPut r i 0 (new_world n w) (start n w small)
   this : {v : ℕ} {x : World} {run : Run x} {c : Call} {pick : ℕ} {right : Picks x.state pick} →
-      Granted x c pick → Puts x.book r i v c → LastPut r i v (next x c pick) (then run c pick right)
+      Granted x c pick → Puts x.book r i v c → LastPut r i v (next x c pick) (called run c pick right)
   earlier : {v : ℕ} {x : World} {run : Run x} {c : Call} {pick : ℕ} {right : Picks x.state pick} →
       ((u : ℕ) → Granted x c pick → Puts x.book r i u c → ⊥) → LastPut r i v x run →
-      LastPut r i v (next x c pick) (then run c pick right)
+      LastPut r i v (next x c pick) (called run c pick right)
 
 -- what a granted call makes of the number of trace steps since the last begin, in a phase
 abbrev pub count_call : Call → Phase → ℕ → ℕ
-count_call (by j a) p n = n
-count_call open_job p n = n
 count_call begin p n = 0
-count_call step p n = cond (is_tracing p) (suc n) n
+count_call step p n = if is_tracing p then suc n else n
+count_call _ p n = n
 
 -- the trace steps of a run since the last granted begin
 unfoldable pub trace_steps : {x : World} → Run x → ℕ
 trace_steps (start n w small) = 0
-trace_steps (then {x = y} run c pick right) =
-    let old = trace_steps run in cond (is_granted (outcome y.state c pick)) (count_call c y.state.phase old) old
+trace_steps (called {x = y} run c pick right) =
+    let old = trace_steps run in if is_ok (outcome y.state c pick) then count_call c y.state.phase old else old

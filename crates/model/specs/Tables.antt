@@ -1,9 +1,9 @@
 -- The tables of all calls: the conditions under which each is granted, and what it then answers and changes.
 -- Conditions on the input come before those on the state, and lower refusal numbers before higher ones.
-use Rattle.std.specs.Prelude.{ℕ, zero, suc, Bool, true, false, cond, not, ◌&&◌, ◌||◌, List, [], ◌∷◌, length, replicate, Ok, Err, Result, ◌==◌, nat_le}
+use Rattle.std.specs.Prelude.{ℕ, zero, suc, Bool, true, false, if◌then◌else◌, not, ◌&&◌, ◌||◌, List, [], ◌∷◌, length, replicate, Ok, Err, Result, ◌==◌, nat_le}
+use Rattle.std.specs.Result.{result_unwrap_or}
 use Rattle.refusal.specs.declared.Reason.TheVariants.{NoSuchHand, WidthTooLarge, WalkTooLong, BufferTooShort, JobNotOpen, AllJobsOpen, NothingHeld, NoSuchSlot, NoFreeCell, NoVacantCard, NotOnFile, CycleRunning, NoCycle, NodsOwed, NoNodOwed, NoCells}
 use Rattle.refusal.specs.declared.Refusal.{Refusal}
-use Rattle.model.specs.declared.JobState.{JobState}
 use Rattle.model.specs.declared.JobState.TheVariants.{Running, Parked}
 use Rattle.model.specs.declared.Phase.{Phase}
 use Rattle.model.specs.declared.Phase.TheVariants.{Normal, Arming, Scanning, Tracing, Repeat, Cleaning}
@@ -43,13 +43,10 @@ vacant_job s = next_vacant (λ j. not (is_open (s.job j).status)) s.last_job 16
 -- of steps already taken where the walk cannot go on, and the number of the failing step where there is no such slot.
 unfoldable pub walk : (ℕ → Cell) → ℕ → ℕ → List ℕ → Result ℕ Refusal
 walk f c steps [] = Ok c
-walk f c steps (i ∷ is) = cond (c == 0) (Err (record { reason = NothingHeld; place = steps }))
-    (cond (slot_ok (f c) i) (walk f (at (slots (f c)) i) (suc steps) is) (Err (record { reason = NoSuchSlot; place = suc steps })))
-
--- what a walk that ends, ends at
-abbrev pub walk_end : Result ℕ Refusal → ℕ
-walk_end (Ok v) = v
-walk_end (Err e) = 0
+walk f c steps (i ∷ is) =
+    if c == 0 then Err (record { reason = NothingHeld; place = steps })
+    else if slot_ok (f c) i then walk f (at (slots (f c)) i) (suc steps) is
+    else Err (record { reason = NoSuchSlot; place = suc steps })
 
 -- CONDITIONS
 
@@ -119,10 +116,6 @@ checks s step = need (not (in_phase Normal s.phase)) NoCycle ∷ need (not (must
 abbrev pub opened_job : Phase → Job
 opened_job p = record { status = Running; armed = among (Arming ∷ Scanning ∷ Tracing ∷ Repeat ∷ Cleaning ∷ []) p; owes = false; hands = empty_hands }
 
--- a job with another status
-abbrev pub with_status : JobState → Job → Job
-with_status t row = record { status = t; armed = row.armed; owes = row.owes; hands = row.hands }
-
 -- a new record, with a card and a width, in the cell that the heap picked
 unfoldable pub taken : State → ℕ → ℕ → ℕ → State
 taken s pick k w = set_cell s pick (used (new_colour s.phase s.cursor pick) k (replicate w 0))
@@ -172,8 +165,8 @@ settle_on zero s j t h w pick = grant made (set_hand (filed_on (taken s pick (va
 -- what each call of a job answers and leaves; `pick` is the free cell that the heap takes, should it be asked for one
 abbrev pub job_effect : State → ℕ → Action → ℕ → Grant
 job_effect s j close pick = grant done (set_job s j closed_row)
-job_effect s j park pick = grant done (set_job s j (with_status Parked (s.job j)))
-job_effect s j wake pick = grant done (set_job s j (with_status Running (s.job j)))
+job_effect s j park pick = grant done (set_job s j (record (s.job j) { status = Parked }))
+job_effect s j wake pick = grant done (set_job s j (record (s.job j) { status = Running }))
 job_effect s j nod pick = grant done (nodded s j)
 job_effect s j (make h w) pick = grant done (set_hand (taken s pick 0 w) j h pick)
 job_effect s j (settle name h w) pick = settle_on (filed s (text name)) s j (text name) h w pick
@@ -183,7 +176,7 @@ job_effect s j (store g i h) pick = grant done (stored s j (hand s j g) i (hand 
 job_effect s j (copy g h) pick = grant done (set_hand s j h (hand s j g))
 job_effect s j (drop_hand h) pick = grant done (set_hand s j h 0)
 job_effect s j (same g h) pick = grant (told (hand s j g == hand s j h)) s
-job_effect s j (follow g path h) pick = grant done (set_hand s j h (walk_end (walk s.cell (hand s j g) 0 path)))
+job_effect s j (follow g path h) pick = grant done (set_hand s j h (result_unwrap_or (walk s.cell (hand s j g) 0 path) 0))
 job_effect s j (spelling_of h n) pick = grant (spelled (text_on s (card_of (held s j h)))) s
 
 -- what each call answers and leaves

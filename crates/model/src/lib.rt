@@ -6,7 +6,7 @@ ghost use Rattle.model.specs.Promise.{Theorem};
 
 /// The colour of a record, as in any tricolour collector: white is not yet marked, grey is marked and still to be
 /// scanned, black is marked and scanned.
-#[derive(Clone, Copy, Drop)]
+#[derive(Clone, Copy, Debug, PartialEq, Eq)]
 pub enum Colour {
     White,
     Grey,
@@ -15,7 +15,7 @@ pub enum Colour {
 
 /// Where the collector stands in its cycle. In ARMING, SCANNING and PARTING it waits for a nod of every open job; in
 /// TRACING and REPEAT it marks, in CLEANING it clears the cards of dead names, in SWEEPING it frees.
-#[derive(Clone, Copy, Drop)]
+#[derive(Clone, Copy, Debug, PartialEq, Eq)]
 pub enum Phase {
     Normal,
     Arming,
@@ -28,7 +28,7 @@ pub enum Phase {
 }
 
 /// Whether a job is open and, if it is, whether it runs or is parked. The collector nods for parked jobs itself.
-#[derive(Clone, Copy, Drop)]
+#[derive(Clone, Copy, Debug, PartialEq, Eq)]
 pub enum JobState {
     Closed,
     Running,

@@ -1,12 +1,12 @@
 use Rattle.std.proofs.Common.{refl}
 use Rattle.spelling.specs.Settling.{settle, spelled}
-use Rattle.model.specs.Machine.{first, next_vacant, same_text, filed}
+use Rattle.model.specs.Machine.{first, next_vacant, filed}
 use Rattle.model.specs.Cycle.{grey_all, nodded, scanned}
 use Rattle.model.specs.Tables.{walk, taken, filed_on, found_into, outcome}
 use Rattle.examples.proofs.worked_cases_hold.Goals as goal
 
 pub returns : goal.returns
-unfolding settle spelled first next_vacant same_text filed grey_all nodded scanned walk taken filed_on found_into outcome
+unfolding settle spelled first next_vacant filed grey_all nodded scanned walk taken filed_on found_into outcome
 returns c =
     record {
       settling = record {
