@@ -1,7 +1,8 @@
 -- What a call may change of kept records, names and marks: nothing becomes kept that was not; names stay on file but at
 -- the commit; and whatever becomes marked is held, or a held record or a marked one leads to it.
-use Rattle.std.proofs.Common.{◌≡◌, ℕ, zero, suc, ◌≤◌, Bool, true, false, not, ◌≢◌, ◌⊎◌, List, length, sym, refl, ap, ◌∙◌, subst, inl, inr, arith, eq-eqb, None}
+use Rattle.std.proofs.Common.{◌≡◌, ℕ, zero, suc, ◌≤◌, Bool, true, false, not, ◌≢◌, ◌⊎◌, List, length, sym, refl, ap, ◌∙◌, subst, inl, inr, arith, eq-eqb, Some, None}
 use Rattle.std.proofs.lemmas.Bool.{cond_both}
+use Rattle.model.specs.declared.Colour.TheVariants.{White}
 use Rattle.model.specs.declared.Phase.TheVariants.{Cleaning, Scanning, Tracing}
 use Rattle.model.specs.Book.{Book}
 use Rattle.model.specs.Calls.{Action, Call, Spelling, by, settle, step, text}
@@ -15,7 +16,7 @@ use Rattle.model.proofs.CardsRead.{empty_dead}
 use Rattle.model.proofs.Colours.{kept_colour}
 use Rattle.model.proofs.Granted.{Passed, hand_range, not_zero, or_second}
 use Rattle.model.proofs.GreyingKeeps.{Greys, grey_live, grey_unkeep, marked_in}
-use Rattle.model.proofs.Invariant.{Inv, Keeps, Live, LiveCard, Marked}
+use Rattle.model.proofs.Invariant.{Inv, Keeps, Kept, Live, LiveCard, Marked}
 use Rattle.model.proofs.JobRowsKeep.{nod_greys}
 use Rattle.model.proofs.NamesKeep.{finds_greying}
 use Rattle.model.proofs.SlotWriteKeeps.{slot_same_colour}
@@ -89,14 +90,24 @@ module _ (s : State) (b : Book) (place : ℕ → ℕ) (inv : Inv s b place) wher
       ((k : ℕ) → LiveCard s k → card' k ≡ s.card k) →
       Changes c s (set_hand (with_cards (with_cells s (upd s.cell pick x)) card' l) j h pick)
   taken_change c pick x card' l j h vac rng stay = record {
-    back = grind arith;
-    names = grind arith;
+    back = λ d. upd_elim (λ y. Kept s.phase s.cursor d y → Keeps s d ⊎ (colour (s.cell d) ≡ None)) s.cell pick d x
+        (λ e u. inr (ap (λ (m : ℕ). colour (s.cell m)) (sym e) ∙ vac)) (λ e u. inl u);
+    names = inl (λ k v. subst (λ (y : Card). Live (upd s.cell pick x) s.phase y × (y.spelling ≡ (s.card k).spelling))
+        (sym (stay k v)) (alive k v, refl));
     marks = λ d. upd_elim (λ y. Marked (colour y) →
         Marked (colour (s.cell d)) ⊎ Touched s (set_hand (with_cards (with_cells s (upd s.cell pick x)) card' l) j h pick) d)
         s.cell pick d x
         (λ e u. inr (in_hand j h (filled (with_cards (with_cells s (upd s.cell pick x)) card' l) j h pick refl rng ∙ e)))
         (λ e u. inl u);
   }
+    where
+      alive : (k : ℕ) → LiveCard s k → Live (upd s.cell pick x) s.phase (s.card k)
+      alive k v = record {
+        filled = v.filled;
+        not_white = λ e. subst (λ (y : Cell). colour y ≢ Some White)
+            (sym (upd_other s.cell pick (s.card k).record_at x
+            (λ q. (inv.cards.live k v).0.in_use (ap (λ (m : ℕ). colour (s.cell m)) (sym q) ∙ vac)))) (v.not_white e);
+      }
 
   make_change : (c : Call) (pick j h w : ℕ) → colour (s.cell pick) ≡ None → (1 ≤ h) × (h ≤ 8) →
       Changes c s (set_hand (taken s pick 0 w) j h pick)
@@ -138,10 +149,10 @@ module _ (s : State) (b : Book) (place : ℕ → ℕ) (inv : Inv s b place) wher
       gr2 = greys2 s b place inv j g i h run nz
 
       same_colour : (d : ℕ) → colour (s3.cell d) ≡ colour (s2.cell d)
-      same_colour d = grind (arith, slot_same_colour)
+      same_colour d = slot_same_colour s2.cell (hand s j g) i (hand s j h) d
 
       slot_live : (x : Card) → Live s2.cell s2.phase x → Live s3.cell s3.phase x
-      slot_live x l = grind (arith, filled, same_colour)
+      slot_live x l = record { filled = l.filled; not_white = λ q w. l.not_white q (sym (same_colour x.record_at) ∙ w) }
 
       first : (d : ℕ) → Marked (colour (s.cell d)) ⊎ (at (slots (held s j g)) i ≡ d) →
           Marked (colour (s.cell d)) ⊎ Touched s s3 d

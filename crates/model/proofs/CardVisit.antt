@@ -1,13 +1,14 @@
 -- The visit of a card whose record is white, in CLEANING, keeps the invariant.
-use Rattle.std.proofs.Common.{◌≡◌, ℕ, ◌<◌, ◌≤◌, ◌≢◌, ◌⊎◌, refl, ap, ◌∙◌, Some, arith}
+use Rattle.std.proofs.Common.{◌≡◌, ℕ, ◌<◌, ◌≤◌, ◌≢◌, ◌⊎◌, List, sym, refl, ap, ◌∙◌, subst, inl, inr, Option, Some, None}
 use Rattle.std.proofs.lemmas.Bool.{cases_eq}
 use Rattle.model.specs.declared.Colour.TheVariants.{White}
 use Rattle.model.specs.declared.Phase.{Phase}
 use Rattle.model.specs.declared.Phase.TheVariants.{Cleaning}
-use Rattle.model.specs.Book.{Book}
+use Rattle.model.specs.Book.{Book, latest}
 use Rattle.model.specs.Machine.{Card, Cell, State, card_of, colour, upd, with_cards}
-use Rattle.model.proofs.Invariant.{Inv, Kept, Live}
-use Rattle.model.proofs.TableLaws.{upd_all, upd_other}
+use Rattle.model.specs.Promise.{Bears}
+use Rattle.model.proofs.Invariant.{Inv, Kept, Live, Spared}
+use Rattle.model.proofs.TableLaws.{upd_all, upd_elim, upd_other, upd_same}
 
 pub clean_keeps : (s : State) (b : Book) (place : ℕ → ℕ) → Inv s b place → s.phase ≡ Cleaning →
     colour (s.cell (s.card s.cursor).record_at) ≡ Some White →
@@ -29,7 +30,21 @@ clean_keeps s b place inv e z = record {
         (λ lo hi n. absurd (n refl)) (λ k n. inv.cards.cleared q k);
   };
   hands = inv.hands;
-  recs = grind arith;
+  recs = record {
+    none_at = inv.recs.none_at;
+    unmade = inv.recs.unmade;
+    unmade_slots = inv.recs.unmade_slots;
+    one_place = inv.recs.one_place;
+    stands = inv.recs.stands;
+    owner = inv.recs.owner;
+    recs = λ r n k. let o = inv.recs.recs r n k in record {
+      wide = o.wide;
+      holds = o.holds;
+      bears = bears (b.name r) _ o.bears;
+    };
+    newest = upd_all (λ k x. Live f p x → place (latest b.name b.count x.spelling) ≡ x.record_at) s.card c C
+        (λ l. absurd (l.filled refl)) (λ k n. inv.recs.newest k);
+  };
   lasts = inv.lasts;
 }
   where
@@ -49,8 +64,21 @@ clean_keeps s b place inv e z = record {
     C = record { spelling = (s.card s.cursor).spelling; record_at = 0 }
 
     dead : (d : ℕ) → Kept p cur d (f d) → (s.card c).record_at ≡ d → ⊥
-    dead d k q = grind arith
+    dead d k q = subst (λ (r : Phase). Spared r cur d) e (k.spared (ap (λ (m : ℕ). colour (f m)) (sym q) ∙ z))
+
+    bears : (n : Option (List ℕ)) (k : ℕ) → Bears s.card n k → Bears (upd s.card c C) n k
+    bears None k h = h
+    bears (Some sp) k h = (
+      h.0,
+      upd_elim (λ x. x.spelling ≡ sp) s.card c k C
+          (λ q. ap (λ (m : ℕ). (s.card m).spelling) q ∙ h.1) (λ q. h.1),
+    )
 
     inv_distinct : (k m : ℕ) → (c ≡ k) ⊎ (c ≡ k → ⊥) → (c ≡ m) ⊎ (c ≡ m → ⊥) → Live f p (upd s.card c C k) →
         Live f p (upd s.card c C m) → (upd s.card c C k).spelling ≡ (upd s.card c C m).spelling → k ≡ m
-    inv_distinct k m a d live live' same = grind arith
+    inv_distinct k m (inl a) d = λ x. absurd (x.filled (ap (λ (i : ℕ). (upd s.card c C i).record_at) (sym a)
+        ∙ ap (λ (y : Card). y.record_at) (upd_same s.card c C)))
+    inv_distinct k m (inr a) (inl d) = λ y x. absurd
+        (x.filled (ap (λ (i : ℕ). (upd s.card c C i).record_at) (sym d)
+        ∙ ap (λ (y : Card). y.record_at) (upd_same s.card c C)))
+    inv_distinct k m (inr a) (inr d) = rw (upd_other s.card c k C a, upd_other s.card c m C d) (inv.cards.distinct k m)

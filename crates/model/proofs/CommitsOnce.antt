@@ -1,18 +1,19 @@
 -- A cycle has one commit: after it the phase is CLEANING, PARTING or SWEEPING until NORMAL ends the cycle.
-use Rattle.std.proofs.Common.{◌≡◌, ℕ, T, ◌≢◌, List, [], ◌∷◌, sym, refl, subst, arith}
+use Rattle.std.proofs.Common.{◌≡◌, ℕ, zero, suc, T, ltb, ◌≢◌, List, [], ◌∷◌, sym, refl, subst}
+use Rattle.std.proofs.lemmas.Bool.{cond_both}
 use Rattle.model.specs.declared.Phase.{Phase}
 use Rattle.model.specs.declared.Phase.TheVariants.{Cleaning, Normal, Parting, Sweeping}
 use Rattle.model.specs.Calls.{Call, begin, by, open_job, step}
-use Rattle.model.specs.Cycle.{step_from}
-use Rattle.model.specs.Machine.{State, among}
+use Rattle.model.specs.Cycle.{all_owe, clean_on, cleared, nod_or, onward, owing, step_from, swept}
+use Rattle.model.specs.Machine.{State, among, at_phase, is_parked, is_white}
 use Rattle.model.specs.Promise.{InCycle}
 use Rattle.model.specs.Runs.{Commits, Picks, Run, Through, World, more, next, now}
 use Rattle.model.specs.Tables.{checks, effect}
-use Rattle.model.proofs.Colours.{phase_is}
 use Rattle.model.proofs.CallsByEffect.{effect_of}
 use Rattle.model.proofs.Granted.{Passed, next_cases}
-use Rattle.model.proofs.GreyingKeeps.{Repeats, stays}
+use Rattle.model.proofs.GreyingKeeps.{Repeats, stays, turns}
 use Rattle.model.proofs.Invariant.{Sound}
+use Rattle.model.proofs.PhaseCases.{phase_is}
 use Rattle.model.proofs.RunsKeep.{next_sound, run_sound, through_sound}
 use Rattle.model.proofs.Weight.{steady_job, steady_nod}
 
@@ -23,13 +24,31 @@ abbrev late_or_normal : List Phase
 late_or_normal = Normal ∷ late
 
 repeats_late : {p q : Phase} → Repeats p q → T (among late p) → T (among late_or_normal q)
-repeats_late h t = grind arith
+repeats_late {p} stays t = go p t
+  where
+    go : (p : Phase) → T (among late p) → T (among late_or_normal p)
+    go Normal t = tt
+    go _ t = t
+repeats_late turns t = absurd t
 
 abbrev LateOrNormal : State → Type 0
 LateOrNormal s = T (among late_or_normal s.phase)
 
 step_late : (s : State) (p : Phase) → s.phase ≡ p → T (among late p) → LateOrNormal (step_from p s)
-step_late s p e t = grind (arith, repeats_late, steady_nod)
+step_late s Cleaning e t = cond_both (is_white (s.cell (s.card s.cursor).record_at)) (cleared s) s
+    (λ x. LateOrNormal (clean_on x)) (λ q. go (cleared s) e) (λ q. go s e)
+  where
+    go : (x : State) → x.phase ≡ Cleaning → LateOrNormal (clean_on x)
+    go x e = cond_both (ltb x.cursor 512) (onward x) (at_phase (all_owe x) Parting 0 x.rounds) LateOrNormal
+        (λ q. subst (λ (p : Phase). T (among late_or_normal p)) (sym e) tt) (λ q. tt)
+step_late s Parting e t = go (owing is_parked s)
+  where
+    go : (k : ℕ) → LateOrNormal (nod_or k s (at_phase s Sweeping 1 s.rounds))
+    go zero = tt
+    go (suc k) = repeats_late (steady_nod s (suc k)).repeats (subst (λ (p : Phase). T (among late p)) (sym e) tt)
+step_late s Sweeping e t = cond_both (ltb s.cursor s.size) (onward (swept s)) (at_phase (swept s) Normal 0 s.rounds)
+    LateOrNormal (λ q. subst (λ (p : Phase). T (among late_or_normal p)) (sym e) tt) (λ q. tt)
+step_late s _ e t = absurd t
 
 call_late : (x : World) (pick : ℕ) → Sound x → T (among late x.state.phase) → (c : Call) → Passed (checks x.state c) →
     LateOrNormal (effect x.state c pick).after
@@ -41,7 +60,8 @@ call_late x pick inv t step p = step_late x.state x.state.phase refl t
 
 -- what is late and not NORMAL is late
 still_late : (p : Phase) → T (among late_or_normal p) → p ≢ Normal → T (among late p)
-still_late p t n = grind arith
+still_late Normal t n = absurd (n refl)
+still_late _ t n = t
 
 through_late : {x y : World} → Through InCycle x y → Sound x → T (among late x.state.phase) →
     T (among late y.state.phase)

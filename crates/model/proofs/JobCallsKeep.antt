@@ -1,45 +1,67 @@
 -- Calls of a job that make no record and grey none keep the invariant: open, close, park, wake, nod, load, copy, drop
 -- and follow.
-use Rattle.std.proofs.Common.{◌≡◌, ℕ, suc, true, not, eqb, ◌≢◌, ◌⊎◌, List, [], ◌∷◌, Result, sym, refl, inl, inr, Some, arith}
+use Rattle.std.proofs.Common.{◌≡◌, ℕ, suc, ◌≤◌, true, false, not, eqb, ◌≢◌, ◌⊎◌, List, [], ◌∷◌, Result, sym, refl, ◌∙◌, subst, inl, inr, Some}
 use Rattle.std.specs.Result.{result_unwrap_or}
-use Rattle.std.proofs.lemmas.Bool.{cond_both, eqb-false}
+use borrow.Author.Tests.{eqb-false, not-true}
+use Rattle.std.proofs.lemmas.Bool.{cond_both}
 use Rattle.refusal.specs.declared.Refusal.{Refusal}
 use Rattle.model.specs.declared.Colour.TheVariants.{Black}
 use Rattle.model.specs.declared.JobState.{JobState}
+use Rattle.model.specs.declared.JobState.TheVariants.{Closed}
 use Rattle.model.specs.Book.{Book, hold, led}
 use Rattle.model.specs.Calls.{copy, drop_hand, follow, load}
-use Rattle.model.specs.Machine.{Job, State, at, closed_row, colour, hand, held, is_open, is_parked, set_hand, set_job, slots, upd, with_jobs}
+use Rattle.model.specs.Machine.{Job, State, at, closed_row, colour, empty_hands, hand, held, is_open, is_parked, set_hand, set_job, slots, upd, with_jobs}
 use Rattle.model.specs.Tables.{job_checks, opened_job, slot_ok, vacant_job, walk, walks}
 use Rattle.model.proofs.Colours.{black_or}
 use Rattle.model.proofs.Granted.{Passed, hand_range, not_zero}
-use Rattle.model.proofs.Invariant.{Inv, Marking, Protected, via}
-use Rattle.model.proofs.JobRowsKeep.{MayHold, at_none, hand_keeps, open_ok, row_alone_keeps, running_open}
+use Rattle.model.proofs.Invariant.{Inv, Keeps, Marking, Protected, StandsFor, via}
+use Rattle.model.proofs.JobRowsKeep.{MayHold, at_none, close_ok, hand_keeps, open_ok, row_alone_keeps, row_keeps, running_open, stand_ok}
 use Rattle.model.proofs.TableLaws.{vacant_passes, vacant_range}
 
 pub parked_open : (t : JobState) → is_parked t ≡ true → is_open t ≡ true
-parked_open t h = grind arith
+parked_open Closed h = h
+parked_open _ h = refl
 
 module _ (s : State) (b : Book) (place : ℕ → ℕ) (inv : Inv s b place) where
   pub open_keeps : not (eqb (vacant_job s) 0) ≡ true →
       Inv (with_jobs s (upd s.job (vacant_job s) (opened_job s.phase)) (vacant_job s)) b place
-  open_keeps e = grind (arith, row_alone_keeps, open_ok, vacant_range, not_zero, vacant_passes, at_none)
+  open_keeps e = row_alone_keeps s b place k k (opened_job s.phase) inv rng.1
+      (open_ok s.cell s.phase s.cursor k rng.0 rng.1) rel
+    where
+      k : ℕ
+      k = vacant_job s
+
+      rng : (1 ≤ k) × (k ≤ 16)
+      rng = vacant_range (λ j. not (is_open (s.job j).status)) s.last_job 16 inv.lasts.1 (not_zero k e)
+
+      shut : is_open (s.job k).status ≡ false
+      shut = not-true _ (vacant_passes (λ j. not (is_open (s.job j).status)) s.last_job 16 (not_zero k e))
+
+      rel : (g : ℕ) → StandsFor place (b.holds k g) (at empty_hands g)
+      rel g = subst (λ (v : ℕ). StandsFor place (b.holds k g) v) ((inv.jobs k).shut shut g ∙ sym (at_none g)) (inv.hands k g)
 
   pub close_keeps : (j : ℕ) → Inv (set_job s j closed_row) (record b { holds = upd b.holds j (λ h. 0) }) place
-  close_keeps j = grind arith
+  close_keeps j = row_keeps s b place j s.last_job closed_row (λ h. 0) inv inv.lasts.1
+      (close_ok s.cell s.phase s.cursor j) (λ g. record {
+        is = at_none g ∙ sym inv.recs.none_at;
+        none_is = λ z. refl;
+      })
 
   pub status_keeps : (j : ℕ) (t : JobState) → is_open t ≡ true → is_open (s.job j).status ≡ true →
       Inv (set_job s j (record (s.job j) { status = t })) b place
-  status_keeps j t o w = grind arith
+  status_keeps j t o w = row_alone_keeps s b place j s.last_job (record (s.job j) { status = t }) inv inv.lasts.1
+      (stand_ok s.cell s.phase s.cursor j (s.job j) t o w (inv.jobs j)) (inv.hands j)
 
   -- what a hand holds may go into another hand of the job
   held_may : (j g : ℕ) → MayHold s.cell s.phase s.cursor (s.job j) place (b.holds j g) (hand s j g)
-  held_may j g = grind arith
+  held_may j g = record { rel = inv.hands j g; kept = (inv.jobs j).roots g; safe = λ t o. (inv.jobs j).protected t o g }
 
   -- and so may what a slot of such a record holds
   slot_may : (row : Job) (r c i : ℕ) → c ≢ 0 → MayHold s.cell s.phase s.cursor row place r c →
       MayHold s.cell s.phase s.cursor row place (b.slot r i) (at (slots (s.cell c)) i)
   slot_may row r c i nz m = record {
-    rel = grind arith;
+    rel = subst (λ (d : ℕ). StandsFor place (b.slot r i) (at (slots (s.cell d)) i)) (sym m.rel.is)
+        ((inv.recs.recs r (λ z. nz (m.rel.is ∙ z)) (subst (λ (d : ℕ). Keeps s d) m.rel.is (m.kept nz))).holds i);
     kept = inv.heap.leads c (m.kept nz) i;
     safe = λ t o n. go t n (m.safe t o nz) (black_or (colour (s.cell c)));
   }

@@ -1,20 +1,27 @@
 -- One job's row changes: a record goes into a hand, a job opens, closes, is parked, woken, or nods.
 use Rattle.std.proofs.Common.{◌≡◌, ℕ, ◌≤◌, true, false, cond, ◌≢◌, List, sym, ◌∙◌, subst, arith}
+use borrow.Author.Tests.{both_ways}
 use Rattle.std.proofs.lemmas.Bool.{cond_both}
 use Rattle.model.specs.declared.JobState.{JobState}
 use Rattle.model.specs.declared.Phase.{Phase}
 use Rattle.model.specs.declared.Phase.TheVariants.{Scanning}
 use Rattle.model.specs.Book.{Book, hold}
 use Rattle.model.specs.Cycle.{grey_all, nodded, nodded_job}
-use Rattle.model.specs.Machine.{Cell, Job, State, at, empty_hands, in_phase, is_open, is_running, put, set_hand, upd, with_cells, with_jobs}
+use Rattle.model.specs.Machine.{Cell, Job, State, at, closed_row, empty_hands, in_phase, is_open, is_running, put, set_hand, upd, with_cells, with_jobs}
 use Rattle.model.specs.Tables.{opened_job}
-use Rattle.model.proofs.Colours.{phase_is}
 use Rattle.model.proofs.GreyingKeeps.{Greys, grey_list, greying_keeps, greys_refl, marked_list, stays}
-use Rattle.model.proofs.Invariant.{Flags, Inv, JobOk, Kept, Marking, Protected, StandsFor, marked}
+use Rattle.model.proofs.Invariant.{Flags, HandsOk, Inv, JobOk, Kept, Marking, Protected, StandsFor, marked}
+use Rattle.model.proofs.PhaseCases.{marking_cases, phase_is}
 use Rattle.model.proofs.TableLaws.{at_zeros, length_put, put_elim, upd_elim}
 
 pub at_none : (h : ℕ) → at empty_hands h ≡ 0
 at_none h = at_zeros 8 h
+
+-- the jobs' rows change, and with them their hands in the book
+jobs_keep : (s : State) (b : Book) (place : ℕ → ℕ) (rows : ℕ → Job) (holds : ℕ → ℕ → ℕ) (l : ℕ) → Inv s b place → l ≤ 16 →
+    ((i : ℕ) → JobOk s.cell s.phase s.cursor i (rows i)) → HandsOk rows holds place →
+    Inv (with_jobs s rows l) (record b { holds = holds }) place
+jobs_keep s b place rows holds l inv small ok hands = grind arith
 
 -- one row changes, and that job's hands in the book
 pub row_keeps : (s : State) (b : Book) (place : ℕ → ℕ) (j l : ℕ) (y : Job) (w : ℕ → ℕ) → Inv s b place → l ≤ 16 →
@@ -43,7 +50,7 @@ job_hand : (f : ℕ → Cell) (p : Phase) (cur : ℕ) (j : ℕ) (b : Job) (place
 job_hand f p cur j b place r h v ok o lo hi m = record {
   range = ok.range;
   eight = length_put b.hands h v ∙ ok.eight;
-  shut = λ c. cc;
+  shut = λ c. absurd (both_ways (is_open b.status) c o);
   flags = ok.flags;
   roots = λ g. put_elim (λ x. x ≢ 0 → Kept p cur x (f x)) b.hands h g v (λ e. m.kept) (λ n. ok.roots g) lo
       (omega (arith, ok.eight));
@@ -63,8 +70,18 @@ hand_keeps s b place j h r v inv o rng m = row_keeps s b place j s.last_job _ _ 
         (λ n. upd_elim (λ y. StandsFor place y (at (s.job j).hands g)) (b.holds j) h g r (λ q. absurd (n q))
         (λ q. inv.hands j g)) rng.0 (omega (arith, (inv.jobs j).eight))
 
+arms_flags : (p : Phase) → Flags p (opened_job p).armed false
+arms_flags p = grind arith
+
 pub open_ok : (f : ℕ → Cell) (p : Phase) (cur j : ℕ) → 1 ≤ j → j ≤ 16 → JobOk f p cur j (opened_job p)
 open_ok f p cur j lo hi = grind arith
+
+pub close_ok : (f : ℕ → Cell) (p : Phase) (cur j : ℕ) → JobOk f p cur j closed_row
+close_ok f p cur j = grind arith
+
+pub stand_ok : (f : ℕ → Cell) (p : Phase) (cur j : ℕ) (b : Job) (t : JobState) → is_open t ≡ true → is_open b.status ≡ true →
+    JobOk f p cur j b → JobOk f p cur j (record b { status = t })
+stand_ok f p cur j b t o w ok = grind arith
 
 -- the nod
 abbrev nod_cells : Phase → (ℕ → Cell) → List ℕ → ℕ → Cell
@@ -81,7 +98,10 @@ nod_flags p row h = grind arith
 
 nod_protects : (p : Phase) (f : ℕ → Cell) (cur j : ℕ) (row : Job) → is_open row.status ≡ true → JobOk f p cur j row →
     Marking p → (h : ℕ) → at row.hands h ≢ 0 → Protected (nod_cells p f row.hands) (at row.hands h)
-nod_protects p f cur j row o ok m h n = grind (arith, marked, marked_list)
+nod_protects p f cur j row o ok m = marking_cases (λ q. JobOk f q cur j row → (h : ℕ) → at row.hands h ≢ 0 →
+    Protected (nod_cells q f row.hands) (at row.hands h))
+    (λ ok h n. marked (marked_list f row.hands h n (ok.roots h n).in_use)) (λ ok h n. ok.protected tt (ok.flags o).1 h n)
+    (λ ok h n. ok.protected tt (ok.flags o).1 h n) p m ok
 
 pub nod_keeps : (s : State) (b : Book) (place : ℕ → ℕ) (j : ℕ) → is_open (s.job j).status ≡ true → Inv s b place →
     Inv (nodded s j) b place

@@ -1,8 +1,9 @@
 -- Why every run keeps the promise, from the bottom up; docs/PROMISE.md tells it in words.
 
--- laws of tables and searches; the invariant; colours and phases
+-- laws of tables, searches and texts; the invariant; arguments by phase and by colour
 pub mod TableLaws
 pub mod Invariant
+pub mod PhaseCases
 pub mod Colours
 -- what each single change of the store keeps of the invariant
 pub mod Carried

@@ -1,14 +1,17 @@
 -- The phase moves on, while cells and cards stay: every such move keeps the invariant, the commit among them.
-use Rattle.std.proofs.Common.{◌≡◌, ℕ, suc, ◌<◌, ◌≤◌, Bool, true, false, cond, ◌&&◌, ◌≢◌, refl, arith, Option, Some}
+use Rattle.std.proofs.Common.{◌≡◌, ℕ, suc, ◌<◌, ◌≤◌, Bool, true, false, cond, ◌&&◌, ◌≢◌, refl, subst, inl, inr, arith, Option, Some, None}
+use borrow.Author.Tests.{both_ways}
+use Rattle.std.proofs.lemmas.Bool.{cases_eq}
 use Rattle.model.specs.declared.Colour.{Colour}
 use Rattle.model.specs.declared.Colour.TheVariants.{Black, Grey, White}
 use Rattle.model.specs.declared.JobState.{JobState}
+use Rattle.model.specs.declared.JobState.TheVariants.{Closed, Parked, Running}
 use Rattle.model.specs.declared.Phase.{Phase}
 use Rattle.model.specs.declared.Phase.TheVariants.{Arming, Cleaning, Normal, Parting, Repeat, Scanning, Sweeping, Tracing}
 use Rattle.model.specs.Book.{Book}
 use Rattle.model.specs.Cycle.{all_owe, owes_as, owing}
 use Rattle.model.specs.Machine.{Job, State, at, at_phase, colour, is_open, is_parked, is_running, slots, with_jobs}
-use Rattle.model.proofs.Carried.{cards_move}
+use Rattle.model.proofs.Carried.{cards_move, recs_move}
 use Rattle.model.proofs.Invariant.{ColourOk, Flags, Inv, Keeps, Kept, Live, LiveCard, Marked, Marking, Protected, Spared, marked, via}
 use Rattle.model.proofs.TableLaws.{first_none}
 
@@ -50,24 +53,48 @@ record PhaseMove (s : State) (t : Bool) (q : Phase) (cur : ℕ) : Type 0 where
   pub colours : (d : ℕ) → ColourOk q cur d (colour (s.cell d))
   pub flags : (j : ℕ) → is_open (s.job j).status ≡ true → Flags q (s.job j).armed (owing_if t (s.job j)).owes
 
+-- what was spared stays spared
+even : (s : State) (q : Phase) (cur : ℕ) → ((d : ℕ) → colour (s.cell d) ≡ Some White → Spared q cur d →
+    Spared s.phase s.cursor d) → ((d : ℕ) → colour (s.cell d) ≡ Some White → Spared s.phase s.cursor d →
+    Spared q cur d) → KeptMove s q cur
+even s q cur unspare spare = grind arith
+
 -- neither phase is CLEANING
 not_cleaning : (s : State) (q : Phase) (cur : ℕ) → s.phase ≢ Cleaning → q ≢ Cleaning → CardMove s q cur
 not_cleaning s q cur n m = grind arith
 
+-- the new phase is none of marking
+not_marking : (s : State) (t : Bool) (q : Phase) → (Marking q → ⊥) → MarkingMove s t q
+not_marking s t q n = grind arith
+
 phase_keeps : (s : State) (b : Book) (place : ℕ → ℕ) (t : Bool) (q : Phase) (cur r : ℕ) → Inv s b place → PhaseMove s t q cur →
     Inv (moved s t q cur r) b place
 phase_keeps s b place t q cur r inv m = record {
-  heap = grind (arith, unkeep);
-  jobs = grind arith;
+  heap = record {
+    no_zero = inv.heap.no_zero;
+    inside = inv.heap.inside;
+    colours = m.colours;
+    leads = λ c k i n. m.kept.slot c i k n (inv.heap.leads c (unkeep c k) i n);
+    protects = m.marking.protects;
+  };
+  jobs = λ j. record {
+    range = (inv.jobs j).range;
+    eight = (inv.jobs j).eight;
+    shut = (inv.jobs j).shut;
+    flags = m.flags j;
+    roots = λ h n. m.kept.hand j h n ((inv.jobs j).roots h n);
+    protected = λ tr o. m.marking.protected tr j o;
+  };
   cards = cards_move unkeep (λ d k. refl) (record { unlive = m.cards.unlive; lives = m.kept.card; clears = m.cards.clears })
       inv.cards;
   hands = inv.hands;
-  recs = grind arith;
+  recs = recs_move (record { kept = unkeep; same_slots = λ d k. refl; same_card = λ d k. refl }) m.cards.unlive (λ d n. n)
+      (λ d n. n) inv.recs;
   lasts = inv.lasts;
 }
   where
     unkeep : (d : ℕ) → Kept q cur d (s.cell d) → Keeps s d
-    unkeep d k = grind arith
+    unkeep d k = record { in_use = k.in_use; spared = λ e. m.kept.unspare d e (k.spared e) }
 
 -- no open job owes a nod
 abbrev pub NoneOwe : State → Type 0
@@ -84,7 +111,9 @@ no_owes s b place inv p r j o = go (s.job j).status (s.job j).owes refl o
 
     go : (t : JobState) (w : Bool) → (s.job j).owes ≡ w → is_open t ≡ true → (is_parked t && w) ≡ false →
         (is_running t && w) ≡ false → w ≡ false
-    go t w e o a c = grind arith
+    go Closed w e o a c = cc
+    go Running w e o a c = c
+    go Parked w e o a c = a
 
 -- a hand of a job that is not open is empty, and the other hands are protected
 all_protected : (s : State) (b : Book) (place : ℕ → ℕ) → Inv s b place → Marking s.phase → NoneOwe s →
@@ -133,23 +162,85 @@ module _ (s : State) (b : Book) (place : ℕ → ℕ) (inv : Inv s b place) wher
   protected_black no_grey (marked {c = c} l) = go (colour (s.cell c)) refl l
     where
       go : (l : Option Colour) → colour (s.cell c) ≡ l → Marked l → l ≡ Some Black
-      go l e h = grind arith
+      go (Some Grey) e h = absurd (no_grey c e)
+      go (Some Black) e h = refl
+      go _ e h = absurd h
   protected_black no_grey (via i g n e z) = absurd (n (protected_black no_grey g))
 
   pub commit_keeps : s.phase ≡ Tracing → (r : ℕ) → ((d : ℕ) → colour (s.cell d) ≢ Some Grey) →
       Inv (at_phase s Cleaning 1 r) b place
-  commit_keeps e r no_grey = move Tracing e false Cleaning 1 r (grind (arith, protected_black, all_protected, sound_from))
+  commit_keeps e r no_grey = move Tracing e false Cleaning 1 r (record {
+    kept = record {
+      unspare = λ d a z. tt;
+      hand = λ j h n k. black_kept _ (protected_black no_grey
+          (all_protected (from Tracing) b place (sound_from Tracing e) tt (λ i o. (((sound_from Tracing e).jobs i).flags o).1) j h
+          n));
+      slot = λ c i k n u. black_kept _ (protected_black no_grey
+          ((sound_from Tracing e).heap.protects tt c (is_black c (colour (s.cell c)) refl k) i n));
+      card = λ k l u. record { in_use = u.in_use; spared = λ z. l.not_white refl z };
+    };
+    cards = record {
+      unlive = λ k l. record { filled = l.filled; not_white = λ q. cc };
+      clears = λ q k lo hi. absurd (omega arith);
+    };
+    marking = not_marking (from Tracing) false Cleaning (λ m. m);
+    colours = no_grey;
+    flags = λ j o. tt;
+  })
+    where
+      black_kept : (c : ℕ) → colour (s.cell c) ≡ Some Black → Kept Cleaning 1 c (s.cell c)
+      black_kept c d = record { in_use = λ z. cc; spared = λ z. cc }
+
+      is_black : (c : ℕ) (l : Option Colour) → colour (s.cell c) ≡ l → Kept Cleaning 1 c (s.cell c) →
+          colour (s.cell c) ≡ Some Black
+      is_black c None q k = absurd (k.in_use q)
+      is_black c (Some White) q k = absurd (k.spared q)
+      is_black c (Some Grey) q k = absurd (no_grey c q)
+      is_black c (Some Black) q k = q
 
   pub clean_next : s.phase ≡ Cleaning → (r : ℕ) →
       ((s.card s.cursor).record_at ≢ 0 → colour (s.cell (s.card s.cursor).record_at) ≢ Some White) →
       Inv (at_phase s Cleaning (suc s.cursor) r) b place
-  clean_next e r is_clean = move Cleaning e false Cleaning (suc s.cursor) r (grind (arith, sound_from))
+  clean_next e r is_clean = move Cleaning e false Cleaning (suc s.cursor) r (record {
+    kept = even (from Cleaning) Cleaning (suc s.cursor) (λ d a z. z) (λ d a z. z);
+    cards = record {
+      unlive = λ k l. l;
+      clears = λ q k lo hi. elim (cases_eq s.cursor k) [
+        | inl w ↦ subst (λ (m : ℕ). (s.card m).record_at ≢ 0 →
+            colour (s.cell (s.card m).record_at) ≢ Some White) w is_clean
+        | inr w ↦ (sound_from Cleaning e).cards.cleared refl k
+            lo (omega arith)
+      ];
+    };
+    marking = not_marking (from Cleaning) false Cleaning (λ m. m);
+    colours = (sound_from Cleaning e).heap.colours;
+    flags = λ j o. tt;
+  })
 
   pub to_parting : s.phase ≡ Cleaning → (r : ℕ) → 512 < s.cursor → Inv (at_phase (all_owe s) Parting 0 r) b place
-  to_parting e r past = move Cleaning e true Parting 0 r (grind (arith, sound_from))
+  to_parting e r past = move Cleaning e true Parting 0 r (record {
+    kept = even (from Cleaning) Parting 0 (λ d a z. z) (λ d a z. z);
+    cards = record {
+      unlive = λ k l. record {
+        filled = l.filled;
+        not_white = λ q. let h = inv.cards.ranged k l.filled in (sound_from Cleaning e).cards.cleared refl k h.0
+            (omega arith) l.filled;
+      };
+      clears = λ q. cc;
+    };
+    marking = not_marking (from Cleaning) true Parting (λ m. m);
+    colours = (sound_from Cleaning e).heap.colours;
+    flags = λ j o q. absurd (both_ways _ q o);
+  })
 
   pub to_sweeping : s.phase ≡ Parting → (r : ℕ) → NoneOwe s → Inv (at_phase s Sweeping 1 r) b place
-  to_sweeping e r none_owe = move Parting e false Sweeping 1 r (grind (arith, sound_from, zero_not))
+  to_sweeping e r none_owe = move Parting e false Sweeping 1 r (record {
+    kept = even (from Parting) Sweeping 1 (λ d a z. zero_not d White z a) (λ d a z. absurd z);
+    cards = not_cleaning (from Parting) Sweeping 1 (λ q. cc) (λ q. cc);
+    marking = not_marking (from Parting) false Sweeping (λ m. m);
+    colours = λ d. ((sound_from Parting e).heap.colours d, zero_not d Black);
+    flags = λ j o. ((sound_from Parting e).jobs j).flags o (none_owe j o);
+  })
 
   pub to_normal : s.phase ≡ Sweeping → (r : ℕ) → s.size < s.cursor → Inv (at_phase s Normal 0 r) b place
   to_normal e r past = grind arith

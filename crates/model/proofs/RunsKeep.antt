@@ -8,13 +8,13 @@ use Rattle.model.specs.Calls.{Action, Call, Spelling, begin, by, close, copy, dr
 use Rattle.model.specs.Machine.{State, filed, upd}
 use Rattle.model.specs.Runs.{Picks, Run, Through, World, granted, more, new_world, next, now, standing, start, called}
 use Rattle.model.specs.Tables.{checks, effect, is_on_file, job_checks, job_effect, settle_on, settles}
-use Rattle.model.proofs.Colours.{phase_is}
 use Rattle.model.proofs.CardsRead.{filed_live}
 use Rattle.model.proofs.Granted.{Passed, hand_range, next_cases, not_zero, or_second}
 use Rattle.model.proofs.Invariant.{Inv, LiveCard, Sound}
 use Rattle.model.proofs.JobCallsKeep.{close_keeps, copy_keeps, drop_keeps, follow_keeps, load_keeps, open_keeps, parked_open, status_keeps}
 use Rattle.model.proofs.JobRowsKeep.{nod_keeps, running_open}
 use Rattle.model.proofs.NamesKeep.{find_keeps, found_keeps, make_keeps, settle_makes}
+use Rattle.model.proofs.PhaseCases.{phase_is}
 use Rattle.model.proofs.PhaseMoves.{begin_keeps}
 use Rattle.model.proofs.StepsKeep.{step_keeps}
 use Rattle.model.proofs.StoreKeeps.{store_keeps}

@@ -1,24 +1,34 @@
 -- Writing a slot of a record keeps the invariant, where the barrier has run.
-use Rattle.std.proofs.Common.{◌≡◌, ℕ, ◌<◌, ◌≤◌, ◌≢◌, ◌⊎◌, List, length, sym, refl, ap, ◌∙◌, subst, inl, inr, Option, Some, None, arith}
+use Rattle.std.proofs.Common.{◌≡◌, ℕ, ◌<◌, ◌≤◌, ◌≢◌, ◌⊎◌, List, length, sym, refl, ap, ◌∙◌, subst, inl, inr, Option, Some, None}
 use Rattle.std.proofs.lemmas.Bool.{cases_eq}
+use Rattle.model.specs.declared.Colour.{Colour}
 use Rattle.model.specs.declared.Colour.TheVariants.{Black}
 use Rattle.model.specs.declared.Phase.{Phase}
 use Rattle.model.specs.Book.{Book, write_slot}
-use Rattle.model.specs.Machine.{Card, Cell, Job, State, at, card_of, colour, put, slots, upd, with_slot}
+use Rattle.model.specs.Machine.{Card, Cell, Job, State, at, card_of, colour, free, put, slots, upd, used, with_slot}
+use Rattle.model.specs.Promise.{Bears}
 use Rattle.model.specs.Tables.{set_slot}
 use Rattle.model.proofs.Carried.{cards_move, job_move, protected_map}
-use Rattle.model.proofs.Invariant.{CardsOk, HeapOk, Inv, JobOk, Keeps, Kept, Live, Marked, Marking, Protected, RecOk, RecsOk, StandsFor}
+use Rattle.model.proofs.Colours.{kept_colour}
+use Rattle.model.proofs.Invariant.{CardsOk, ColourOk, HeapOk, Inv, JobOk, Keeps, Kept, Live, Marked, Marking, Protected, RecOk, RecsOk, StandsFor}
 use Rattle.model.proofs.TableLaws.{length_put, put_elim, upd_all, upd_elim, upd_other, upd_same}
 
 slot_colour : (i v : ℕ) (x : Cell) → colour (with_slot i v x) ≡ colour x
-slot_colour i v x = grind arith
+slot_colour i v free = refl
+slot_colour i v (used c k l) = refl
+
+slot_card : (i v : ℕ) (x : Cell) → card_of (with_slot i v x) ≡ card_of x
+slot_card i v free = refl
+slot_card i v (used c k l) = refl
 
 slot_slots : (i v : ℕ) (x : Cell) → colour x ≢ None → slots (with_slot i v x) ≡ put (slots x) i v
-slot_slots i v x n = grind arith
+slot_slots i v free n = absurd (n refl)
+slot_slots i v (used c k l) n = refl
 
 -- a write changes no cell's colour
 pub slot_same_colour : (f : ℕ → Cell) (c i v d : ℕ) → colour (upd f c (with_slot i v (f c)) d) ≡ colour (f d)
-slot_same_colour f c i v d = grind arith
+slot_same_colour f c i v d = upd_elim (λ y. colour y ≡ colour (f d)) f c d (with_slot i v (f c))
+    (λ e. slot_colour i v (f c) ∙ ap (λ (m : ℕ). colour (f m)) e) (λ n. refl)
 
 module _ (f : ℕ → Cell) (p : Phase) (cur c i v : ℕ) (kept : Kept p cur c (f c)) (lo : 1 ≤ i) (hi : i ≤ length (slots (f c)))
     (old : Marking p → at (slots (f c)) i ≢ 0 → Marked (colour (f (at (slots (f c)) i)))) where
@@ -29,13 +39,14 @@ module _ (f : ℕ → Cell) (p : Phase) (cur c i v : ℕ) (kept : Kept p cur c (
   same_colour = slot_same_colour f c i v
 
   same_no : (d : ℕ) → card_of (g d) ≡ card_of (f d)
-  same_no d = grind arith
+  same_no d = upd_elim (λ y. card_of y ≡ card_of (f d)) f c d (with_slot i v (f c))
+      (λ e. slot_card i v (f c) ∙ ap (λ (m : ℕ). card_of (f m)) e) (λ n. refl)
 
   keep : (d : ℕ) → Kept p cur d (f d) → Kept p cur d (g d)
-  keep d h = grind arith
+  keep d = kept_colour p cur d (f d) (g d) (same_colour d)
 
   unkeep : (d : ℕ) → Kept p cur d (g d) → Kept p cur d (f d)
-  unkeep d h = grind arith
+  unkeep d = kept_colour p cur d (g d) (f d) (sym (same_colour d))
 
   -- a property of the slots of the changed record
   slot_elim : (P : ℕ → Type 0) (m : ℕ) → (i ≡ m → P v) → (i ≢ m → P (at (slots (f c)) m)) → P (at (slots (with_slot i v (f c))) m)
@@ -71,7 +82,7 @@ module _ (f : ℕ → Cell) (p : Phase) (cur c i v : ℕ) (kept : Kept p cur c (
     slot_heap size ok = record {
       no_zero = same_colour 0 ∙ ok.no_zero;
       inside = λ d n. ok.inside d (λ e. n (same_colour d ∙ e));
-      colours = grind arith;
+      colours = λ d. subst (λ (l : Option Colour). ColourOk p cur d l) (sym (same_colour d)) (ok.colours d);
       leads = upd_all (λ d y. Kept p cur d y → (m : ℕ) → at (slots y) m ≢ 0 → Kept p cur (at (slots y) m) (g (at (slots y) m))) f
           c (with_slot i v (f c))
           (λ h m. slot_elim (λ x. x ≢ 0 → Kept p cur x (g x)) m (λ e n. keep v (new_kept n))
@@ -88,10 +99,14 @@ module _ (f : ℕ → Cell) (p : Phase) (cur c i v : ℕ) (kept : Kept p cur c (
     slot_job j b ok = job_move j b keep (λ t o h z. slot_protected t (ok.protected t o h z)) (λ g. g) ok
 
     slot_unlive : (x : Card) → Live g p x → Live f p x
-    slot_unlive x l = grind arith
+    slot_unlive x l = record { filled = l.filled; not_white = λ e z. l.not_white e (same_colour _ ∙ z) }
 
     slot_cards : (card : ℕ → Card) → CardsOk f p cur card → CardsOk g p cur card
-    slot_cards card ok = grind (arith, cards_move, unkeep, same_no, slot_unlive, same_colour)
+    slot_cards card ok = cards_move unkeep (λ d h. same_no d) (record {
+      unlive = λ k. slot_unlive (card k);
+      lives = λ k l h. keep _ h;
+      clears = λ e k a b n z. ok.cleared e k a b n (sym (same_colour _) ∙ z);
+    }) ok
 
     module _ (card : ℕ → Card) (count : ℕ) (width : ℕ → ℕ) (slot : ℕ → ℕ → ℕ) (name : ℕ → Option (List ℕ)) (place : ℕ →
         ℕ) (r y : ℕ) (rc : StandsFor place r c) (nz : c ≢ 0) (yv : StandsFor place y v) where
@@ -113,12 +128,12 @@ module _ (f : ℕ → Cell) (p : Phase) (cur c i v : ℕ) (kept : Kept p cur c (
           this : RecOk card place (width r) (slot r) (name r) (f c) →
               RecOk card place (width r) (upd (slot r) i y) (name r) (with_slot i v (f c))
           this o = record {
-            wide = grind (arith, slot_slots, length_put);
+            wide = ap length (slot_slots i v (f c) kept.in_use) ∙ length_put (slots (f c)) i v ∙ o.wide;
             holds = λ m. slot_elim (λ x. StandsFor place (upd (slot r) i y m) x) m
                 (λ e. upd_elim (λ z. StandsFor place z v) (slot r) i m y (λ q. yv) (λ q. absurd (q e)))
                 (λ n. upd_elim (λ z. StandsFor place z (at (slots (f c)) m)) (slot r) i m y (λ q. absurd (n q))
                 (λ q. o.holds m));
-            bears = grind arith;
+            bears = subst (λ (k : ℕ). Bears card (name r) k) (sym (slot_card i v (f c))) o.bears;
           }
 
           go : (t : ℕ) → (r ≡ t) ⊎ (r ≡ t → ⊥) → place t ≢ 0 → Kept p cur (place t) (g (place t)) →

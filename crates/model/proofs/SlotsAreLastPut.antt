@@ -1,6 +1,7 @@
 -- The book's slots hold what the last granted store put there, and a granted load gives just that.
-use Rattle.std.proofs.Common.{◌≡◌, ℕ, suc, ◌<◌, ◌≤◌, Bool, ◌≢◌, ◌⊎◌, length, Ok, Err, Result, sym, refl, ap, ◌∙◌, subst, inl, inr, arith, is_ok}
-use Rattle.std.proofs.lemmas.Bool.{both_ways, cases_eq}
+use Rattle.std.proofs.Common.{◌≡◌, ℕ, suc, ◌<◌, ◌≤◌, Bool, true, false, ◌≢◌, ◌⊎◌, length, Ok, Err, Result, sym, refl, ap, ◌∙◌, subst, inl, inr, arith, is_ok}
+use borrow.Author.Tests.{both_ways}
+use Rattle.std.proofs.lemmas.Bool.{cases_eq}
 use Rattle.refusal.specs.declared.Refusal.{Refusal}
 use Rattle.model.specs.Book.{Book, is_found, write, write_settle}
 use Rattle.model.specs.Calls.{Answer, Call, Grant, by, load, make, settle, store, text}
@@ -10,7 +11,7 @@ use Rattle.model.specs.Tables.{job_checks, job_effect, outcome, running}
 use Rattle.model.proofs.Granted.{Passed, granted_next, hand_range, not_zero}
 use Rattle.model.proofs.Invariant.{Keeps, Sound}
 use Rattle.model.proofs.RunsKeep.{run_sound}
-use Rattle.model.proofs.TableLaws.{put_elim, upd_same}
+use Rattle.model.proofs.TableLaws.{put_elim, upd_elim, upd_same}
 
 -- a call leaves the slots of all records, and is no store
 record SlotsStay (b : Book) (c : Call) (a : Answer) : Type 0 where
@@ -38,7 +39,8 @@ slots_stay_or_store b (by j (settle name h w)) a u =
     inl (record { same_slot = go (is_found a); no_store = λ j g i h e. cc })
   where
     go : (t : Bool) (r i : ℕ) → (write_settle t b j (text name) h w).slot r i ≡ b.slot r i
-    go t r i = grind arith
+    go true r i = refl
+    go false r i = new_slots b u r i
 slots_stay_or_store b (by j (store g k h)) a u = inr (record { job = j; of = g; at_slot = k; from = h; is = refl })
 slots_stay_or_store b _ a u = inl (record { same_slot = λ r i. refl; no_store = λ j g i h e. cc })
 
@@ -68,10 +70,13 @@ stored_last {x} run j g k h pick right r i ok old = go (cases_eq (b.holds j g) r
     miss n = subst after (sym same_slot) (earlier (λ u q p. let s = puts_is p in n (holds_is s.3 s.4, slot_is s.3)) old)
       where
         same_slot : slot r i ≡ b.slot r i
-        same_slot = grind arith
+        same_slot = upd_elim (λ f. f i ≡ b.slot r i) b.slot (b.holds j g) r _
+            (λ w. upd_elim (λ y. y ≡ b.slot r i) (b.slot (b.holds j g)) k i (b.holds j h) (λ e. absurd (n (w, e)))
+            (λ e. ap (λ (m : ℕ). b.slot m i) w)) (λ w. refl)
 
         holds_is : {j' g' h' : ℕ} → by j (store g k h) ≡ by j' (store g' i h') → b.holds j' g' ≡ r → b.holds j g ≡ r
-        holds_is e f = grind arith
+        holds_is {j'} {g'} {h'} e f = let a : j ≡ j' = cc in let c : g ≡ g' = cc in subst (λ (m : ℕ). b.holds m g ≡ r) (sym a)
+            (subst (λ (m : ℕ). b.holds j' m ≡ r) (sym c) f)
 
         slot_is : {j' g' h' : ℕ} → by j (store g k h) ≡ by j' (store g' i h') → k ≡ i
         slot_is e = cc
@@ -81,7 +86,9 @@ stored_last {x} run j g k h pick right r i ok old = go (cases_eq (b.holds j g) r
         (this ok (subst (λ (m : ℕ). Puts b r m (b.holds j h) (by j (store g k h))) q (puts j g h p refl)))
       where
         hit : slot r i ≡ b.holds j h
-        hit = grind arith
+        hit = upd_elim (λ f. f i ≡ b.holds j h) b.slot (b.holds j g) r _
+            (λ w. upd_elim (λ y. y ≡ b.holds j h) (b.slot (b.holds j g)) k i (b.holds j h) (λ e. refl) (λ n. absurd (n q)))
+            (λ n. absurd (n p))
     go (inl p) (inr q) = miss (λ t. q t.1)
     go (inr p) q = miss (λ t. p t.0)
 
@@ -113,8 +120,16 @@ new_edge b c a u r i = go (slots_stay_or_store b c a u)
     Edge : Call → ℕ → Type 0
     Edge d v = (b.slot r i ≡ v) ⊎ ((j : ℕ) × (h : ℕ) × ((write b d a).holds j h ≡ v))
 
+    stored : (j g k h : ℕ) → Edge (by j (store g k h)) ((write b (by j (store g k h)) a).slot r i)
+    stored j g k h = upd_elim (λ f. Edge (by j (store g k h)) (f i)) b.slot (b.holds j g) r
+        (upd (b.slot (b.holds j g)) k (b.holds j h))
+        (λ q. upd_elim (λ y. Edge (by j (store g k h)) y) (b.slot (b.holds j g)) k i (b.holds j h) (λ w. inr (j, h, refl))
+        (λ w. inl (ap (λ (m : ℕ). b.slot m i) (sym q)))) (λ q. inl refl)
+
     go : SlotsStay b c a ⊎ IsStore c → (write b c a).slot r i ≢ 0 → Edge c ((write b c a).slot r i)
-    go h n = grind arith
+    go (inl h) n = inl (sym (h.same_slot r i))
+    go (inr h) n = subst (λ (d : Call). Edge d ((write b d a).slot r i)) (sym h.is)
+        (stored h.job h.of h.at_slot h.from)
 
 pub hand_now : (s : State) (j h v : ℕ) → 1 ≤ h → h ≤ length (s.job j).hands → hand (set_hand s j h v) j h ≡ v
 hand_now s j h v lo hi = ap (λ (y : Job). at y.hands h) (upd_same s.job j _) ∙ put_elim (λ x. x ≡ v) (s.job j).hands h h v

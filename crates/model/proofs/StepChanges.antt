@@ -1,5 +1,5 @@
 -- What a step may change of kept records, names and marks; and so what any call may change.
-use Rattle.std.proofs.Common.{◌≡◌, ℕ, zero, suc, ◌<◌, ◌≤◌, cond, ltb, ◌≢◌, ◌⊎◌, sym, refl, ap, ◌∙◌, subst, inl, inr, arith, Some}
+use Rattle.std.proofs.Common.{◌≡◌, ℕ, zero, suc, ◌<◌, ◌≤◌, cond, ltb, ◌≢◌, ◌⊎◌, sym, refl, ap, ◌∙◌, subst, inl, inr, arith, ltb-true, Some, None}
 use Rattle.std.proofs.lemmas.Bool.{cond_both}
 use Rattle.model.specs.declared.Colour.TheVariants.{Black, Grey, White}
 use Rattle.model.specs.declared.Phase.{Phase}
@@ -12,14 +12,15 @@ use Rattle.model.specs.Runs.{Picks, World, given, next}
 use Rattle.model.specs.Tables.{checks, effect}
 use Rattle.model.proofs.CallChanges.{Changes, Touched, from_marked, job_changes, nod_change, rows_change}
 use Rattle.model.proofs.CallsByEffect.{effect_of}
-use Rattle.model.proofs.Colours.{free_white, grey_is, phase_is}
+use Rattle.model.proofs.Colours.{free_white, grey_is}
 use Rattle.model.proofs.Granted.{Passed, next_cases}
-use Rattle.model.proofs.GreyingKeeps.{marked_in}
+use Rattle.model.proofs.GreyingKeeps.{grey_list, marked_in, unused_greyer, used_greyer}
 use Rattle.model.proofs.Invariant.{Inv, Marked, Sound, Spared}
+use Rattle.model.proofs.PhaseCases.{phase_is}
 use Rattle.model.proofs.SlotsAreLastPut.{new_edge, write_count}
-use Rattle.model.proofs.StepsKeep.{phase_scanned, repeat_end, trace_on_cases}
+use Rattle.model.proofs.StepsKeep.{commit_end, phase_scanned, repeat_end, trace_on_cases}
 use Rattle.model.proofs.SweepVisit.{standing_was}
-use Rattle.model.proofs.TableLaws.{upd_elim}
+use Rattle.model.proofs.TableLaws.{upd_elim, upd_other}
 
 module _ (s : State) (b : Book) (place : ℕ → ℕ) (inv : Inv s b place) where
   abbrev Stepped : State → Type 0
@@ -46,8 +47,11 @@ module _ (s : State) (b : Book) (place : ℕ → ℕ) (inv : Inv s b place) wher
       (q : Phase) (cur r : ℕ) → q ≢ Cleaning → Stepped (at_phase (scanned s) q cur r)
   unfolding scanned
   grey_step_change a spare q cur r other = record {
-    back = grind arith;
-    names = grind arith;
+    back = λ d k. inl (record {
+      in_use = unused_greyer (grey_list s.cell (slots (s.cell s.cursor)) d) (from d k.in_use);
+      spared = λ z. spare d;
+    });
+    names = inl (λ k l. (record { filled = l.filled; not_white = λ e. absurd (other e) }, refl));
     marks = λ d l. upd_elim (λ y. Marked (colour y) → Marked (colour (s.cell d)) ⊎ Touched s (at_phase (scanned s) q cur r) d) g
         s.cursor d (painted Black (g s.cursor))
         (λ e u. inl (subst (λ (m : ℕ). Marked (colour (s.cell m))) e (subst Marked (sym a) tt)))
@@ -56,6 +60,13 @@ module _ (s : State) (b : Book) (place : ℕ → ℕ) (inv : Inv s b place) wher
     where
       g : ℕ → Cell
       g = grey_all s.cell (slots (s.cell s.cursor))
+
+      used_g : colour (g s.cursor) ≢ None
+      used_g = used_greyer (grey_list s.cell (slots (s.cell s.cursor)) s.cursor) (λ z. cc)
+
+      from : (d : ℕ) → colour (upd g s.cursor (painted Black (g s.cursor)) d) ≢ None → colour (g d) ≢ None
+      from d = upd_elim (λ y. colour y ≢ None → colour (g d) ≢ None) g s.cursor d (painted Black (g s.cursor))
+          (λ e h z. used_g (ap (λ (m : ℕ). colour (g m)) e ∙ z)) (λ e h. h)
 
       go : (d : ℕ) → Marked (colour (s.cell d)) ⊎ ((i : ℕ) × (at (slots (s.cell s.cursor)) i ≡ d)) →
           Marked (colour (s.cell d)) ⊎ Touched s (at_phase (scanned s) q cur r) d
@@ -75,10 +86,14 @@ module _ (s : State) (b : Book) (place : ℕ → ℕ) (inv : Inv s b place) wher
       not_cleaning a c = cc
 
       other : (s.phase ≡ Tracing) ⊎ (s.phase ≡ Repeat) → s.phase ≢ Cleaning
-      other h = grind arith
+      other (inl e) z = cc
+      other (inr e) z = cc
 
       end : (s.phase ≡ Tracing) ⊎ (s.phase ≡ Repeat) → Stepped (round_end s)
-      end h = grind arith
+      end (inl e) = commit_end Stepped s e (moves_on (at_phase s Cleaning 1 s.rounds) (λ d. refl) (λ k. refl)
+          (λ d u v. spare d) (inr (e, refl)))
+      end (inr e) = repeat_end Stepped s e (moves_on (at_phase s Tracing 1 (suc s.rounds)) (λ d. refl) (λ k. refl)
+          (λ d u v. spare d) (inl (λ z. cc)))
 
   -- the visit of a card: live cards stay
   clean_change : s.phase ≡ Cleaning → Stepped (clean_on (cleaned s))
@@ -133,7 +148,8 @@ module _ (x : World) (c : Call) (pick : ℕ) (right : Picks x.state pick) (inv :
       (effect x.state c pick).after r n).0 ∙ was (write x.book c (effect x.state c pick).answer).count)
     where
       was : (count : ℕ) → cond (ltb x.book.count count) (upd x.place count pick) x.place r ≡ x.place r
-      was count = grind arith
+      was count = cond_both (ltb x.book.count count) (upd x.place count pick) x.place (λ f. f r ≡ x.place r)
+          (λ e. let h = ltb-true _ _ e in upd_other x.place count r pick (λ q. omega arith)) (λ e. refl)
 
   -- records are only added
   pub next_count : x.book.count ≤ (next x c pick).book.count

@@ -1,12 +1,12 @@
 -- Every step that is granted keeps the invariant.
-use Rattle.std.proofs.Common.{◌≡◌, ℕ, zero, suc, ◌<◌, ◌≤◌, true, not, T, ltb, ◌≢◌, ◌⊎◌, [], ◌∷◌, sym, refl, ap, subst, arith, ltb-false, Some}
+use Rattle.std.proofs.Common.{◌≡◌, ℕ, zero, suc, ◌<◌, ◌≤◌, Bool, true, false, cond, not, ◌&&◌, T, eqb, ltb, ◌≢◌, ◌⊎◌, [], ◌∷◌, sym, refl, ap, ◌∙◌, subst, inl, inr, arith, ltb-false, ltb-true, eq-eqb, eqb-true, Some}
 use Rattle.std.proofs.lemmas.Bool.{and_parts, cases_eq, cond_both}
 use Rattle.model.specs.declared.Colour.TheVariants.{Grey, White}
 use Rattle.model.specs.declared.Phase.{Phase}
 use Rattle.model.specs.declared.Phase.TheVariants.{Arming, Cleaning, Normal, Parting, Repeat, Scanning, Sweeping, Tracing}
 use Rattle.model.specs.Book.{Book}
 use Rattle.model.specs.Cycle.{all_owe, clean_on, cleaned, cleared, handshake, must_wait, nod_or, onward, owes_as, owing, round_end, scanned, step_from, sweep_on, swept, trace_on, traced}
-use Rattle.model.specs.Machine.{Card, State, among, at_phase, colour, is_grey, is_parked, is_running, is_white}
+use Rattle.model.specs.Machine.{Card, State, among, at_phase, colour, in_phase, is_grey, is_parked, is_running, is_white}
 use Rattle.model.specs.Runs.{next, standing}
 use Rattle.model.proofs.CardVisit.{clean_keeps}
 use Rattle.model.proofs.Colours.{grey_is, grey_not, white_is, white_not}
@@ -26,19 +26,30 @@ phase_scanned s = refl
 -- a step that need not wait and finds no parked job owing moves on, and then no running job owes either
 not_waiting : (s : State) → T (among (Arming ∷ Scanning ∷ Parting ∷ []) s.phase) → not (must_wait s) ≡ true →
     owing is_parked s ≡ 0 → owing is_running s ≡ 0
-not_waiting s h w z = grind arith
+not_waiting s h w z = go (among (Arming ∷ Scanning ∷ Parting ∷ []) s.phase) (eqb (owing is_parked s) 0)
+    (eqb (owing is_running s) 0) refl h (eq-eqb _ 0 z) w
+  where
+    go : (a p r : Bool) → eqb (owing is_running s) 0 ≡ r → T a → p ≡ true → not (a && (p && not r)) ≡ true →
+        owing is_running s ≡ 0
+    go true true true e t q w = eqb-true _ 0 e
+    go true true false e t q w = cc
+    go true false r e t q w = cc
+    go false p r e t q w = absurd t
 
 -- after a visit the cursor moves on, or the round ends
 pub trace_on_cases : (P : State → Type 0) (s : State) → (s.cursor < s.size → P (onward s)) →
     (s.size ≤ s.cursor → P (round_end s)) → P (trace_on s)
-trace_on_cases P s on off = grind arith
+trace_on_cases P s on off = cond_both (ltb s.cursor s.size) (onward s) (round_end s) P (λ q. on (ltb-true _ _ q))
+    (λ q. off (ltb-false _ _ q))
 
 pub commit_end : (P : State → Type 0) (s : State) → s.phase ≡ Tracing → P (at_phase s Cleaning 1 s.rounds) → P (round_end s)
-commit_end P s e h = grind arith
+commit_end P s e h = subst (λ (p : Phase). P (cond (in_phase Tracing p) (at_phase s Cleaning 1 s.rounds)
+    (at_phase s Tracing 1 (suc s.rounds)))) (sym e) h
 
 pub repeat_end : (P : State → Type 0) (s : State) → s.phase ≡ Repeat → P (at_phase s Tracing 1 (suc s.rounds)) →
     P (round_end s)
-repeat_end P s e h = grind arith
+repeat_end P s e h = subst (λ (p : Phase). P (cond (in_phase Tracing p) (at_phase s Cleaning 1 s.rounds)
+    (at_phase s Tracing 1 (suc s.rounds)))) (sym e) h
 
 module _ (s : State) (b : Book) (place : ℕ → ℕ) (inv : Inv s b place) where
   shake : (next : State) → T (among (Arming ∷ Scanning ∷ Parting ∷ []) s.phase) → not (must_wait s) ≡ true →
@@ -53,7 +64,7 @@ module _ (s : State) (b : Book) (place : ℕ → ℕ) (inv : Inv s b place) wher
 
   onward_keeps : (x : State) (q : Phase) → x.phase ≡ q → Inv (at_phase x q (suc x.cursor) x.rounds) b place →
       Inv (onward x) b place
-  onward_keeps x q e h = grind arith
+  onward_keeps x q e h = subst (λ (p : Phase). Inv (at_phase x p (suc x.cursor) x.rounds) b place) (sym e) h
 
   -- after a visit in REPEAT
   repeat_on : (x : State) → Inv x b place → x.phase ≡ Repeat → Inv (trace_on x) b place
@@ -69,7 +80,9 @@ module _ (s : State) (b : Book) (place : ℕ → ℕ) (inv : Inv s b place) wher
       (commit_keeps s b place inv e s.rounds (λ d z. no_grey d z q (cases_eq d s.cursor))))
     where
       no_grey : (d : ℕ) → colour (s.cell d) ≡ Some Grey → s.size ≤ s.cursor → (d ≡ s.cursor) ⊎ (d ≡ s.cursor → ⊥) → ⊥
-      no_grey d z big h = grind arith
+      no_grey d z big (inl q) = n (ap (λ (m : ℕ). colour (s.cell m)) (sym q) ∙ z)
+      no_grey d z big (inr q) = let h = inv.heap.inside d (λ w. cc) in (sound_from s b place inv Tracing e).heap.colours d
+          (omega arith) z
 
   trace_step_keeps : Repeats s.phase Repeat → ((d : ℕ) → Spared s.phase s.cursor d) →
       (colour (s.cell s.cursor) ≢ Some Grey → Inv (trace_on s) b place) → Inv (trace_on (traced s)) b place
@@ -111,7 +124,7 @@ module _ (s : State) (b : Book) (place : ℕ → ℕ) (inv : Inv s b place) wher
     where
       waits : (p : Phase) → s.phase ≡ p → T (among (Arming ∷ Scanning ∷ Parting ∷ []) p) →
           T (among (Arming ∷ Scanning ∷ Parting ∷ []) s.phase)
-      waits p e t = grind arith
+      waits p e t = subst (λ (q : Phase). T (among (Arming ∷ Scanning ∷ Parting ∷ []) q)) (sym e) t
   step_keeps Scanning e w = standing_same _ b place
       (shake _ (subst (λ (q : Phase). T (among (Arming ∷ Scanning ∷ Parting ∷ []) q)) (sym e) tt) w
       (to_tracing s b place inv e 1))

@@ -1,9 +1,9 @@
 -- What follows from the invariant at one moment: reached records stand, store and book agree, a name has one record.
-use Rattle.std.proofs.Common.{◌≡◌, ℕ, ◌≢◌, List, sym, ap, ◌∙◌, subst, Some, arith}
+use Rattle.std.proofs.Common.{◌≡◌, ℕ, ◌≢◌, List, sym, ap, ◌∙◌, subst, Option, Some}
 use Rattle.model.specs.declared.Phase.{Phase}
 use Rattle.model.specs.Book.{Book, Leads, Reached, bearer, from_hand, here, through}
 use Rattle.model.specs.Machine.{State, at, card_of, colour, filed, slots}
-use Rattle.model.specs.Promise.{Agree}
+use Rattle.model.specs.Promise.{Agree, Bears}
 use Rattle.model.proofs.CardsRead.{on_file}
 use Rattle.model.proofs.Invariant.{Inv, Keeps, LiveCard, RecOk, Spared, StandsFor}
 
@@ -23,16 +23,16 @@ module _ (s : State) (b : Book) (place : ℕ → ℕ) (inv : Inv s b place) wher
   leads_stands here h = h
   leads_stands (through {r = r} i n l) h = leads_stands l (record {
     placed = λ z. n (rel.none_is (rel.is ∙ z));
-    kept = grind arith;
+    kept = subst (λ (m : ℕ). Keeps s m) rel.is (inv.heap.leads (place r) h.kept i (λ z. n (rel.none_is z)));
   })
     where
       rel : StandsFor place (b.slot r i) (at (slots (s.cell (place r))) i)
-      rel = grind arith
+      rel = (inv.recs.recs r h.placed h.kept).holds i
 
   pub reached_stands : {r : ℕ} → Reached b r → Stands s place r
   reached_stands (from_hand j h n l) = leads_stands l (record {
     placed = λ z. n ((inv.hands j h).none_is ((inv.hands j h).is ∙ z));
-    kept = grind arith;
+    kept = subst (λ (m : ℕ). Keeps s m) (inv.hands j h).is ((inv.jobs j).roots h (λ z. n ((inv.hands j h).none_is z)));
   })
 
   pub agree : Agree s b place
@@ -60,10 +60,11 @@ module _ (s : State) (b : Book) (place : ℕ → ℕ) (inv : Inv s b place) wher
   }
     where
       named : (card_of (s.cell (place r)) ≢ 0) × ((s.card (card_of (s.cell (place r)))).spelling ≡ t)
-      named = grind arith
+      named = subst (λ (n : Option (List ℕ)). Bears s.card n (card_of (s.cell (place r)))) e
+          (inv.recs.recs r h.placed h.kept).bears
 
       back : (s.card (card_of (s.cell (place r)))).record_at ≡ place r
-      back = grind arith
+      back = inv.cards.back (place r) h.kept named.0
 
   -- the name of a standing record is on file, and stands for that record
   pub files : (r : ℕ) (t : List ℕ) → Stands s place r → b.name r ≡ Some t → (filed s t ≢ 0) × (bearer b t ≡ r)

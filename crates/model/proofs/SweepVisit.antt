@@ -1,13 +1,13 @@
 -- The sweep's visit of a cell keeps the invariant.
-use Rattle.std.proofs.Common.{◌≡◌, ℕ, suc, ◌<◌, ◌≢◌, sym, ap, ◌∙◌, subst, arith, Some, None}
+use Rattle.std.proofs.Common.{◌≡◌, ℕ, suc, ◌<◌, ◌≢◌, sym, refl, ap, ◌∙◌, subst, arith, Some, None}
 use Rattle.model.specs.declared.Colour.TheVariants.{Black, Grey}
 use Rattle.model.specs.declared.Phase.TheVariants.{Sweeping}
 use Rattle.model.specs.Book.{Book}
 use Rattle.model.specs.Cycle.{swept, swept_cell}
-use Rattle.model.specs.Machine.{Cell, State, at_phase, card_of, colour, slots, upd}
+use Rattle.model.specs.Machine.{Cell, State, at_phase, card_of, colour, free, slots, upd, used}
 use Rattle.model.specs.Runs.{standing}
 use Rattle.model.proofs.Carried.{Shrinks, cards_move, job_move, leads_move, rec_move}
-use Rattle.model.proofs.Invariant.{Inv, Kept, Live, RecOk, StandsFor}
+use Rattle.model.proofs.Invariant.{Inv, Kept, Live, Marked, RecOk, StandsFor}
 use Rattle.model.proofs.TableLaws.{upd_all, upd_elim}
 
 -- a record whose cell is still used keeps its place
@@ -30,9 +30,20 @@ standing_for place s r v n h = grind arith
 pub standing_same : (s : State) (b : Book) (place : ℕ → ℕ) → Inv s b place → Inv s b (standing place s)
 standing_same s b place inv = grind arith
 
+-- what the sweep makes of a cell
+swept_kept : (cur : ℕ) (x : Cell) → Kept Sweeping (suc cur) cur (swept_cell x) →
+    Kept Sweeping cur cur x × (slots (swept_cell x) ≡ slots x) × (card_of (swept_cell x) ≡ card_of x)
+swept_kept cur x k = grind arith
+
+swept_keep : (cur : ℕ) (x : Cell) → Kept Sweeping cur cur x → Kept Sweeping (suc cur) cur (swept_cell x)
+swept_keep cur x k = grind arith
+
 swept_colour : (cur : ℕ) (x : Cell) → colour x ≢ Some Grey →
     (colour (swept_cell x) ≢ Some Grey) × (colour (swept_cell x) ≢ Some Black)
 swept_colour cur x n = grind arith
+
+swept_used : (x : Cell) → colour (swept_cell x) ≢ None → colour x ≢ None
+swept_used x n = grind arith
 
 pub sweep_keeps : (s : State) (b : Book) (place : ℕ → ℕ) (r : ℕ) → Inv (at_phase s Sweeping s.cursor s.rounds) b place →
     Inv (at_phase (swept s) Sweeping (suc s.cursor) r) b (standing place (swept s))
@@ -50,7 +61,7 @@ sweep_keeps s b place r inv = record {
   jobs = λ j. job_move j (s.job j) keep (λ t. absurd t) (λ g. g) (inv.jobs j);
   cards = cards_move sh.kept sh.same_card (record { unlive = unlive; lives = λ k l h. keep _ h; clears = λ q. cc })
       inv.cards;
-  hands = grind arith;
+  hands = λ j h. standing_for place (swept s) _ _ (λ n. (keep _ ((inv.jobs j).roots h n)).in_use) (inv.hands j h);
   recs = record {
     none_at = standing_zero place (swept s) 0 inv.recs.none_at;
     unmade = λ t h. standing_zero place (swept s) t (inv.recs.unmade t h);
@@ -80,23 +91,27 @@ sweep_keeps s b place r inv = record {
     g = upd f c (swept_cell (f c))
 
     vac0 : (x : Cell) → colour x ≡ None → colour (swept_cell x) ≡ None
-    vac0 x e = grind arith
+    vac0 free e = refl
+    vac0 (used c k l) e = cc
 
     less : (d : ℕ) → c ≢ d → d < suc c → d < c
     less d n h = omega arith
 
     from : (d : ℕ) → colour (g d) ≢ None → colour (f d) ≢ None
-    from d h = grind arith
+    from = upd_all (λ d y. colour y ≢ None → colour (f d) ≢ None) f c (swept_cell (f c)) (swept_used (f c)) (λ d e n. n)
 
     keep : (d : ℕ) → Kept Sweeping c d (f d) → Kept Sweeping (suc c) d (g d)
-    keep d h = grind arith
+    keep = upd_all (λ d y. Kept Sweeping c d (f d) → Kept Sweeping (suc c) d y) f c (swept_cell (f c)) (swept_keep c (f c))
+        (λ d e k. record { in_use = k.in_use; spared = λ q. let h = k.spared q in omega arith })
 
     old : (d : ℕ) → Kept Sweeping (suc c) d (g d) →
         Kept Sweeping c d (f d) × (slots (g d) ≡ slots (f d)) × (card_of (g d) ≡ card_of (f d))
-    old d h = grind arith
+    old = upd_all (λ d y. Kept Sweeping (suc c) d y →
+        Kept Sweeping c d (f d) × (slots y ≡ slots (f d)) × (card_of y ≡ card_of (f d))) f c (swept_cell (f c))
+        (swept_kept c (f c)) (λ d e k. (record { in_use = k.in_use; spared = λ q. less d e (k.spared q) }, refl, refl))
 
     sh : Shrinks f g Sweeping Sweeping c (suc c)
-    sh = grind arith
+    sh = record { kept = λ d k. (old d k).0; same_slots = λ d k. (old d k).1; same_card = λ d k. (old d k).2 }
 
     unlive : (k : ℕ) → Live g Sweeping (s.card k) → Live f Sweeping (s.card k)
     unlive k l = record { filled = l.filled; not_white = λ q. cc }
@@ -113,3 +128,13 @@ sweep_keeps s b place r inv = record {
         o : RecOk s.card place (b.width t) (b.slot t) (b.name t) (g (place t))
         o = rec_move (f (place t)) (g (place t)) (old (place t) k).1 (old (place t) k).2
             (inv.recs.recs t n (old (place t) k).0)
+
+-- what is kept after the visit was kept before it
+pub sweep_back : (f : ℕ → Cell) (c d : ℕ) → Kept Sweeping (suc c) d (upd f c (swept_cell (f c)) d) → Kept Sweeping c d (f d)
+sweep_back f c d h = grind arith
+
+pub sweep_marked : (f : ℕ → Cell) (c d : ℕ) → Marked (colour (upd f c (swept_cell (f c)) d)) → Marked (colour (f d))
+sweep_marked f c d h = grind arith
+
+pub sweep_used : (f : ℕ → Cell) (c d : ℕ) → colour (upd f c (swept_cell (f c)) d) ≢ None → colour (f d) ≢ None
+sweep_used f c d h = grind arith

@@ -1,6 +1,8 @@
 -- What no hand reaches from begin to the commit is freed by the cycle's end.
-use Rattle.std.proofs.Common.{◌≡◌, ℕ, ◌<◌, ◌≤◌, ◌≢◌, ◌⊎◌, sym, refl, ap, ◌∙◌, subst, inl, inr, arith}
+use Rattle.std.proofs.Common.{◌≡◌, ℕ, ◌<◌, ◌≤◌, ◌≢◌, ◌⊎◌, sym, refl, ap, ◌∙◌, subst, inl, inr, arith, Option, Some, None}
 use Rattle.std.proofs.lemmas.Bool.{cases_lt}
+use Rattle.model.specs.declared.Colour.{Colour}
+use Rattle.model.specs.declared.Colour.TheVariants.{Black, Grey}
 use Rattle.model.specs.declared.Phase.{Phase}
 use Rattle.model.specs.declared.Phase.TheVariants.{Cleaning, Normal}
 use Rattle.model.specs.Book.{Book, Leads, Reached, from_hand, here, through}
@@ -8,9 +10,10 @@ use Rattle.model.specs.Calls.{Call, begin, step}
 use Rattle.model.specs.Machine.{Cell, at, colour, first, hand, slots}
 use Rattle.model.specs.Runs.{Commits, Granted, Later, Picks, Run, Through, Unreached, World, more, next, now}
 use Rattle.model.proofs.CallChanges.{Touched, from_marked, in_hand, in_slot}
-use Rattle.model.proofs.Colours.{marked_used, phase_is}
+use Rattle.model.proofs.Colours.{marked_used}
 use Rattle.model.proofs.Granted.{granted_next, next_cases}
-use Rattle.model.proofs.Invariant.{Keeps, Kept, Marked, Sound}
+use Rattle.model.proofs.Invariant.{ColourOk, Keeps, Kept, Marked, Sound}
+use Rattle.model.proofs.PhaseCases.{phase_is}
 use Rattle.model.proofs.RunsKeep.{next_sound, run_sound, through_sound}
 use Rattle.model.proofs.StepChanges.{next_changes, next_count, next_edge, next_place, step_book}
 
@@ -63,12 +66,12 @@ module _ (x : World) (c : Call) (pick : ℕ) (right : Picks x.state pick) (inv :
 
   next_untraced : Untraced x t → Untraced y t
   next_untraced un = record {
-    made = grind (arith, next_count);
+    made = let a = next_count x c pick right inv in let b = un.made in omega arith;
     no_path = λ d l r e ld. by_age d l r e ld (cases_lt x.book.count r);
   }
     where
       nz : (d : ℕ) → Marked (colour (y.state.cell d)) → d ≢ 0
-      nz d l = grind (arith, marked_used, inv')
+      nz d l z = marked_used (y.state.cell d) l (ap (λ (m : ℕ). colour (y.state.cell m)) z ∙ inv'.heap.no_zero)
 
       touched : (d : ℕ) → d ≢ 0 → (r : ℕ) → y.place r ≡ d → x.place r ≡ d → Leads y.book r t →
           Marked (colour (x.state.cell d)) ⊎ Touched x.state y.state d → ⊥
@@ -78,7 +81,7 @@ module _ (x : World) (c : Call) (pick : ℕ) (right : Picks x.state pick) (inv :
           (subst (λ (v : ℕ). Leads y.book v t) same_record ld))
         where
           same_record : r ≡ y.book.holds j h
-          same_record = grind (arith, inv')
+          same_record = inv'.recs.one_place r _ (e ∙ sym q ∙ (inv'.hands j h).is) (λ z. n (sym e ∙ z))
       touched d n r e o ld (inr (in_slot j g i m q)) =
           far (from_hand j g (λ z. m (at_g ∙ ap x.place z ∙ inv.recs.none_at))
           (via_slot (x.book.holds j g) i d r from_slot o n (leads_back ld)))
@@ -87,11 +90,13 @@ module _ (x : World) (c : Call) (pick : ℕ) (right : Picks x.state pick) (inv :
           at_g = (inv.hands j g).is
 
           from_slot : r ≡ x.book.slot (x.book.holds j g) i
-          from_slot = grind arith
+          from_slot = slot_record (x.book.holds j g) i d r (λ z. m (at_g ∙ z))
+              (subst (λ (v : ℕ). Keeps x.state v) at_g ((inv.jobs j).roots g m))
+              (sym (ap (λ (v : ℕ). at (slots (x.state.cell v)) i) at_g) ∙ q) o n
       touched d n r e o ld (inr (from_marked w i l q)) = un.no_path w l u at_u (via_slot u i d r from_slot o n (leads_back ld))
         where
           own : (r : ℕ) × (x.place r ≡ w)
-          own = grind arith
+          own = inv.recs.owner w (marked_used (x.state.cell w) l)
 
           u : ℕ
           u = own.0
@@ -99,8 +104,14 @@ module _ (x : World) (c : Call) (pick : ℕ) (right : Picks x.state pick) (inv :
           at_u : x.place u ≡ w
           at_u = own.1
 
+          wz : w ≢ 0
+          wz z = marked_used (x.state.cell w) l (ap (λ (m : ℕ). colour (x.state.cell m)) z ∙ inv.heap.no_zero)
+
           from_slot : r ≡ x.book.slot u i
-          from_slot = grind (arith, slot_record, marked_kept)
+          from_slot = slot_record u i d r (λ z. wz (sym at_u ∙ z))
+              (subst (λ (v : ℕ). Keeps x.state v) (sym at_u)
+              (marked_kept x.state.phase x.state.cursor w (x.state.cell w) l))
+              (ap (λ (v : ℕ). at (slots (x.state.cell v)) i) at_u ∙ q) o n
 
       by_age : (d : ℕ) → Marked (colour (y.state.cell d)) → (r : ℕ) → y.place r ≡ d → Leads y.book r t →
           (x.book.count < r) ⊎ (r ≤ x.book.count) → ⊥
@@ -115,7 +126,17 @@ record Doomed (x : World) (t : ℕ) : Type 0 where
 
 next_doomed : (x : World) (c : Call) (pick : ℕ) → Picks x.state pick → Sound x → (t : ℕ) → Doomed x t →
     Doomed (next x c pick) t
-next_doomed x c pick right inv t dm = grind (arith, next_count, next_changes, next_place)
+next_doomed x c pick right inv t dm = record {
+  made = let a = next_count x c pick right inv in let b = dm.made in omega arith;
+  doom = λ n k. go n ((next_changes x c pick right inv).back ((next x c pick).place t) k);
+}
+  where
+    go : (next x c pick).place t ≢ 0 → Keeps x.state ((next x c pick).place t) ⊎
+        (colour (x.state.cell ((next x c pick).place t)) ≡ None) → ⊥
+    go n (inl k) = let e = next_place x c pick right inv t dm.made n in dm.doom (λ z. n (e ∙ z))
+        (subst (λ (v : ℕ). Keeps x.state v) e k)
+    go n (inr k) = let e = next_place x c pick right inv t dm.made n in inv.recs.stands t (λ z. n (e ∙ z))
+        (ap (λ (v : ℕ). colour (x.state.cell v)) (sym e) ∙ k)
 
 cleaning_marked : (x : Cell) (cur c : ℕ) → Kept Cleaning cur c x → Marked (colour x)
 cleaning_marked x cur c k = grind arith
@@ -145,7 +166,24 @@ later_doomed t (more {y = y} l c pick right p) g d = next_doomed y c pick right 
 -- begin: nothing is grey or black
 begin_untraced : (x : World) (t pick : ℕ) → Picks x.state pick → Sound x → x.place t ≢ 0 →
     Granted x begin pick → Untraced (next x begin pick) t
-begin_untraced x t pick right inv n e = grind (arith, next_count, next_cases, phase_is, granted_next)
+begin_untraced x t pick right inv n e = record {
+  made = let more = next_count x begin pick right inv in elim (cases_lt x.book.count t)
+      [ inl w ↦ absurd (n (inv.recs.unmade t w)) | inr w ↦ omega arith ];
+  no_path = λ d l r p ld. none_marked (colour (x.state.cell d)) (white d).0 (white d).1
+      (subst (λ (c : Cell). Marked (colour c)) (same_cell d) l);
+}
+  where
+    same_cell : (d : ℕ) → (next x begin pick).state.cell d ≡ x.state.cell d
+    same_cell d = next_cases x begin pick (λ y. y.state.cell d ≡ x.state.cell d) refl (λ p. refl)
+
+    white : (d : ℕ) → ColourOk Normal x.state.cursor d (colour (x.state.cell d))
+    white d = subst (λ (p : Phase). ColourOk p x.state.cursor d (colour (x.state.cell d)))
+        (phase_is Normal _ (granted_next x begin pick e).0.0) (inv.heap.colours d)
+
+    none_marked : (l : Option Colour) → l ≢ Some Grey → l ≢ Some Black → Marked l → ⊥
+    none_marked (Some Grey) g b h = g refl
+    none_marked (Some Black) g b h = b refl
+    none_marked _ g b h = h
 
 pub frees : (x y z : World) → Run x → (r first last : ℕ) → x.place r ≢ 0 →
     Picks x.state first → Granted x begin first → Through (Unreached r) (next x begin first) y →

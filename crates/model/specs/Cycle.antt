@@ -57,8 +57,7 @@ nodded_job p row = record row { armed = armed_after p row.armed; owes = false }
 
 -- the store after a nod of job j: in SCANNING what its hands hold becomes grey
 unfoldable pub nodded : State → ℕ → State
-nodded s j = set_job (with_cells s (if in_phase Scanning s.phase then grey_all s.cell (s.job j).hands else s.cell)) j
-    (nodded_job s.phase (s.job j))
+nodded s j = set_job (with_cells s (if in_phase Scanning s.phase then grey_all s.cell (s.job j).hands else s.cell)) j (nodded_job s.phase (s.job j))
 
 -- whether job j owes a nod and its status passes a test
 abbrev pub owes_as : (JobState → Bool) → State → ℕ → Bool
