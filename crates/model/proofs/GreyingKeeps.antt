@@ -57,10 +57,6 @@ black_greyer a v = grind arith
 pub none_greyer : {x y : Cell} → Greyer x y → colour x ≡ None → colour y ≡ None
 none_greyer a v = grind arith
 
--- after greying, a used cell is grey or black
-marked_greyed : (x : Cell) → colour x ≢ None → Marked (colour (greyed x))
-marked_greyed x n = grind arith
-
 pub greyed_grey : (x : Cell) → colour x ≡ Some White → colour (greyed x) ≡ Some Grey
 greyed_grey x e = grind arith
 
@@ -101,12 +97,6 @@ pub data Repeats : Phase → Phase → Type 0 where
   stays : {p : Phase} → Repeats p p
   turns : Repeats Tracing Repeat
 
-repeats_spared : {p q : Phase} (cur d : ℕ) → Repeats p q → Spared p cur d → Spared q cur d
-repeats_spared cur d h s = grind arith
-
-repeats_unspared : {p q : Phase} (cur d : ℕ) → Repeats p q → Spared q cur d → Spared p cur d
-repeats_unspared cur d h s = grind arith
-
 pub repeats_marking : {p q : Phase} → Repeats p q → Marking q → Marking p
 repeats_marking h t = grind arith
 
@@ -115,9 +105,6 @@ repeats_greying h t = grind arith
 
 repeats_flags : {p q : Phase} (a o : Bool) → Repeats p q → Flags p a o → Flags q a o
 repeats_flags a o h t = grind arith
-
-repeats_cleaning : {p q : Phase} → Repeats p q → p ≡ Cleaning → q ≡ Cleaning
-repeats_cleaning h e = grind arith
 
 repeats_uncleaning : {p q : Phase} → Repeats p q → q ≡ Cleaning → p ≡ Cleaning
 repeats_uncleaning h e = grind arith

@@ -10,18 +10,12 @@ use Rattle.model.specs.Cycle.{grey_all, nodded, nodded_job}
 use Rattle.model.specs.Machine.{Cell, Job, State, at, closed_row, empty_hands, in_phase, is_open, is_running, put, set_hand, upd, with_cells, with_jobs}
 use Rattle.model.specs.Tables.{opened_job}
 use Rattle.model.proofs.GreyingKeeps.{Greys, grey_list, greying_keeps, greys_refl, marked_list, stays}
-use Rattle.model.proofs.Invariant.{Flags, HandsOk, Inv, JobOk, Kept, Marking, Protected, StandsFor, marked}
+use Rattle.model.proofs.Invariant.{Flags, Inv, JobOk, Kept, Marking, Protected, StandsFor, marked}
 use Rattle.model.proofs.PhaseCases.{marking_cases, phase_is}
 use Rattle.model.proofs.TableLaws.{at_zeros, length_put, put_elim, upd_elim}
 
 pub at_none : (h : ℕ) → at empty_hands h ≡ 0
 at_none h = at_zeros 8 h
-
--- the jobs' rows change, and with them their hands in the book
-jobs_keep : (s : State) (b : Book) (place : ℕ → ℕ) (rows : ℕ → Job) (holds : ℕ → ℕ → ℕ) (l : ℕ) → Inv s b place → l ≤ 16 →
-    ((i : ℕ) → JobOk s.cell s.phase s.cursor i (rows i)) → HandsOk rows holds place →
-    Inv (with_jobs s rows l) (record b { holds = holds }) place
-jobs_keep s b place rows holds l inv small ok hands = grind arith
 
 -- one row changes, and that job's hands in the book
 pub row_keeps : (s : State) (b : Book) (place : ℕ → ℕ) (j l : ℕ) (y : Job) (w : ℕ → ℕ) → Inv s b place → l ≤ 16 →
@@ -69,9 +63,6 @@ hand_keeps s b place j h r v inv o rng m = row_keeps s b place j s.last_job _ _ 
         (λ e. upd_elim (λ y. StandsFor place y v) (b.holds j) h g r (λ q. m.rel) (λ q. absurd (q e)))
         (λ n. upd_elim (λ y. StandsFor place y (at (s.job j).hands g)) (b.holds j) h g r (λ q. absurd (n q))
         (λ q. inv.hands j g)) rng.0 (omega (arith, (inv.jobs j).eight))
-
-arms_flags : (p : Phase) → Flags p (opened_job p).armed false
-arms_flags p = grind arith
 
 pub open_ok : (f : ℕ → Cell) (p : Phase) (cur j : ℕ) → 1 ≤ j → j ≤ 16 → JobOk f p cur j (opened_job p)
 open_ok f p cur j lo hi = grind arith

@@ -7,7 +7,7 @@ use Rattle.model.specs.Cycle.{swept, swept_cell}
 use Rattle.model.specs.Machine.{Cell, State, at_phase, card_of, colour, free, slots, upd, used}
 use Rattle.model.specs.Runs.{standing}
 use Rattle.model.proofs.Carried.{Shrinks, cards_move, job_move, leads_move, rec_move}
-use Rattle.model.proofs.Invariant.{Inv, Kept, Live, Marked, RecOk, StandsFor}
+use Rattle.model.proofs.Invariant.{Inv, Kept, Live, RecOk, StandsFor}
 use Rattle.model.proofs.TableLaws.{upd_all, upd_elim}
 
 -- a record whose cell is still used keeps its place
@@ -128,13 +128,3 @@ sweep_keeps s b place r inv = record {
         o : RecOk s.card place (b.width t) (b.slot t) (b.name t) (g (place t))
         o = rec_move (f (place t)) (g (place t)) (old (place t) k).1 (old (place t) k).2
             (inv.recs.recs t n (old (place t) k).0)
-
--- what is kept after the visit was kept before it
-pub sweep_back : (f : ℕ → Cell) (c d : ℕ) → Kept Sweeping (suc c) d (upd f c (swept_cell (f c)) d) → Kept Sweeping c d (f d)
-sweep_back f c d h = grind arith
-
-pub sweep_marked : (f : ℕ → Cell) (c d : ℕ) → Marked (colour (upd f c (swept_cell (f c)) d)) → Marked (colour (f d))
-sweep_marked f c d h = grind arith
-
-pub sweep_used : (f : ℕ → Cell) (c d : ℕ) → colour (upd f c (swept_cell (f c)) d) ≢ None → colour (f d) ≢ None
-sweep_used f c d h = grind arith

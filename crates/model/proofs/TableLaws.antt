@@ -85,11 +85,3 @@ vacant_range t last n small h = go (first t (suc last) (n - last)) refl h
 pub upd_all : {A : Type 0} (P : ℕ → A → Type 0) (f : ℕ → A) (i : ℕ) (v : A) → P i v → ((j : ℕ) → i ≢ j → P j (f j)) →
     (j : ℕ) → P j (upd f i v j)
 upd_all P f i v p q j = upd_elim (λ y. P j y) f i j v (λ e. subst (λ (m : ℕ). P m v) e p) (q j)
-
-pub upd_both : {A B : Type 0} (P : ℕ → A → B → Type 0) (f : ℕ → A) (g : ℕ → B) (i : ℕ) (v : A) (w : B) → P i v w →
-    ((j : ℕ) → i ≢ j → P j (f j) (g j)) → (j : ℕ) → P j (upd f i v j) (upd g i w j)
-upd_both P f g i v w p q j = go (cases_eq i j)
-  where
-    go : (i ≡ j) ⊎ (i ≡ j → ⊥) → P j (upd f i v j) (upd g i w j)
-    go (inl e) = subst (λ (m : ℕ). P m (upd f i v m) (upd g i w m)) e (rw (upd_same f i v, upd_same g i w) p)
-    go (inr n) = rw (upd_other f i j v n, upd_other g i j w n) (q j n)
