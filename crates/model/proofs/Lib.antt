@@ -1,4 +1,6 @@
 -- Why every run keeps the promise, from the bottom up; docs/PROMISE.md tells it in words.
+-- Many lemmas are proved by cases though `grind` finds them: a search that fails takes long, and tests/planted makes
+-- them fail 78 times (docs/DECISIONS.md).
 
 -- laws of tables, searches and texts; the invariant; arguments by phase and by colour
 pub mod TableLaws

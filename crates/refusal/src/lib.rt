@@ -39,6 +39,7 @@ impl From<Reason> for u8 {
 }
 
 /// What a refused call answers. The place is 0, but for a walk that fails on its way (docs/RULES.md, "Refusals").
+// A number and no `Option`: by the rules each refusal has a place, and 0 is one.
 #[derive(Clone, Copy, Debug, PartialEq, Eq)]
 pub struct Refusal {
     pub reason: Reason,

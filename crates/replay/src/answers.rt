@@ -1,4 +1,5 @@
 //! The answer to a line.
+//! What asks for memory is passed the allocator, as everywhere in std, and no struct keeps it.
 ghost use Rattle.std.specs.Prelude.{◌≡◌, IfOk, string_bytes, length};
 ghost use Rattle.std.specs.Option.{option_map};
 ghost use Rattle.script.specs.Answering.{settling_answer};
@@ -23,8 +24,8 @@ fn settled<'a>(text: &[u8], buffer: &'a mut [u8]) -> Result<&'a [u8], Reason>
 fn settle_text(alloc: Global, size: u32, text: &[u8]) -> Result<String, AllocError>
     ensures { IfOk result (λ s. string_bytes s ≡ settling_answer (settle_into size text.now)) }
 {
-    // More room than the longest spelling changes no answer, so none is made. `usize` has no `From<u32>`: the cast is
-    // proved to lose nothing.
+    // SIZE is the room of a C caller's buffer. More room than the longest spelling changes no answer, so none is made.
+    // `usize` has no `From<u32>`: the cast is proved to lose nothing.
     let mut bytes = [0; LONGEST_SPELLING];
     let buffer = &mut bytes[..(size as usize).min(LONGEST_SPELLING)];
     Answer::SettleText(settled(text, buffer)).to_string(alloc)

@@ -1,4 +1,5 @@
 //! The reading of a line.
+//! What asks for memory is passed the allocator, as everywhere in std, and no struct keeps it.
 ghost use Rattle.std.specs.Prelude.{◌≡◌, ◌≢◌, false, alloc_error};
 ghost use Rattle.std.specs.Option.{option_map};
 ghost use Rattle.script.specs.Words.{first_word};
@@ -44,7 +45,6 @@ fn read_call(alloc: Global, cut: Cut<'_>) -> Result<Call, LineError>
 }
 
 /// The call that a line asks for. An empty line and a comment ask for none. The line comes without its newline.
-// What asks for memory is passed the allocator, as everywhere in std, and no struct keeps it.
 pub fn read_line(alloc: Global, line: &[u8]) -> Result<Option<Call>, LineError>
     ensures value { Reads result (line_of line.now) }
 

@@ -1,4 +1,5 @@
 //! Text with escapes: how a line's is read, and how an answer's is written.
+//! What asks for memory is passed the allocator, as everywhere in std, and no struct keeps it.
 ghost use Rattle.std.specs.Prelude.{◌≡◌, ℕ, ◌≤◌, List, length, Some, None, MatchOption, MatchResult, alloc_error};
 ghost use Rattle.std.specs.Fmt.{WritesOnOk};
 ghost use Rattle.std.specs.Slice.Iter.{iter_rest};
@@ -11,7 +12,7 @@ use std::{fmt, slice};
 fn hex_digit(c: u8) -> Option<u8>
     ensures { result ≡ hex_value c }
 {
-    // A cast that is proved to lose nothing: `try_from` would have a failure to answer that can't be.
+    // The digit is below 16, so the cast loses nothing; `try_from` would answer a failure that can't be.
     char::from(c).to_digit(16).map(|d| d as u8)
 }
 
@@ -32,6 +33,7 @@ fn escape(bytes: &mut slice::Iter<'_, u8>) -> Option<u8>
 }
 
 /// The bytes that a text with escapes stands for. Whatever `Escaped` writes of some bytes, this gives those bytes back.
+#[tactic(auto, using(crate::proofs::Escapes::byte_read, crate::proofs::Escapes::escape_read, crate::proofs::Escapes::undoes))]
 pub fn unescape(alloc: Global, text: &[u8]) -> Result<Vec<u8>, LineError>
     ensures value { MatchResult result (λ v. unescaped text.now ≡ Some v.items) (λ e. e ≡ LineError.Invalid → unescaped text.now ≡ None) }
     ensures undoes { (bs : List ℕ) → Bytes bs → text.now ≡ escaped bs → MatchResult result (λ v. v.items ≡ bs) (λ e. e ≡ LineError.OutOfMemory alloc_error) }
@@ -56,6 +58,7 @@ fn is_plain(b: u8) -> bool
 }
 
 /// Writes `b` as it is or in an escape.
+#[tactic(auto, using(crate::proofs::Shown::hex_shown))]
 fn put_byte<W: fmt::Write>(b: u8, f: &mut fmt::Formatter<W>) -> fmt::Result
     ensures { WritesOnOk W.write_str_gives f.old result (escaped_byte b) f.new }
 {

@@ -4,6 +4,7 @@ ghost use Rattle.std.specs.Option.{option_map};
 ghost use Rattle.script.specs.Words.{first_word, after_word, word_number};
 
 /// A line cut after its first word. Nothing follows a word that the line ends with, not even an empty word.
+// It has no model, since it is `Copy`, and a struct with a lifetime can't have both.
 #[derive(Clone, Copy)]
 pub struct Cut<'a> {
     pub word: &'a [u8],
@@ -36,10 +37,11 @@ pub fn cut_word(line: &[u8]) -> Cut<'_>
 fn begins_with_plus(word: &[u8]) -> bool
     ensures { result ≡ (slice_index word.now 0 == 43) }
 {
-    word.first() == Some(&b'+')
+    word.starts_with(b"+")
 }
 
 /// The number that a word is, if it is one: digits alone, and at most 4294967295.
+#[tactic(auto, using(crate::proofs::Digits::parsed, crate::proofs::Digits::text_of))]
 pub fn number(word: &[u8]) -> Option<u32>
     ensures { result ≡ word_number word.now }
 {

@@ -64,10 +64,11 @@ fn squeezed(text: &[u8]) -> ArrayVec<u8, LONGEST_TEXT>
 fn ends_in_slash(text: &[u8]) -> bool
     ensures { result ≡ is_slash (slice_index text.now (length text.now - 1)) }
 {
-    text.last() == Some(&b'/')
+    text.ends_with(b"/")
 }
 
 /// What the rule leaves of a text.
+#[tactic(auto, unfolding(crate::specs::Settling::spelled), using(crate::proofs::Apart::merged_no_run, crate::proofs::Trimming::trim_right_once, crate::proofs::Trimming::trim_right_stays))]
 fn spelled(text: &[u8]) -> ArrayVec<u8, LONGEST_TEXT>
     requires { length text.now ≤ 120 }
     ensures { result.items ≡ spelled text.now }
@@ -131,14 +132,15 @@ impl Spelling {
 }
 
 /// Settles a text into the front of a buffer, and answers the length.
+// The laws stand here too: see `Spelling::settle`.
 #[tactic(auto, using(crate::proofs::Changes::lawful))]
 pub fn settle_into(text: &[u8], out: &mut [u8]) -> Result<usize, Reason>
     ensures length { result ≡ map_ok length (settle_into (length out.old) text.now) }
     ensures buffer { out.new ≡ buffer_after (settle_into (length out.old) text.now) out.old }
     ensures lawful { Lawful text.now }
 {
-    // It answers a length and not the slice: with a slice lent from `out`, a clause had no plain word for the buffer
-    // afterwards.
+    // It answers a length and not the slice: with a slice lent from `out`, a clause would have no plain word for the
+    // buffer afterwards.
     let left = settled(text)?;
     if out.len() < LONGEST_SPELLING {
         return Err(Reason::BufferTooShort);

@@ -8,7 +8,7 @@ use std::marker::Model;
 /// A settled spelling, the one form under which a path is filed. A clause sees it as its text. The invariant says that
 /// no value of it can be anything but settled, and that the bytes after the text are 0, so that equal texts are equal
 /// values.
-// An array and a length, since a spelling is copied and takes no memory of the heap: an `ArrayVec` is not `Copy`.
+// An array and a length, since a spelling is `Copy` and takes no memory of the heap; an `ArrayVec` is not `Copy`.
 #[derive(Clone, Copy, PartialEq, Eq)]
 pub struct Spelling {
     bytes: [u8; LONGEST_SPELLING],
@@ -43,6 +43,7 @@ impl Spelling {
     }
 
     /// The text of the spelling, 1 to 40 bytes.
+    // That it is settled is said again here, since a caller does not see the invariant.
     pub fn as_bytes(&self) -> &[u8]
         ensures text { result.now ≡ self.now }
         ensures settled { Settled result.now }

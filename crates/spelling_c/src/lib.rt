@@ -9,7 +9,8 @@ ghost use Rattle.spelling.specs.Settling.{settle_into};
 use spelling::settle_into;
 
 /// Settles a text into the front of a buffer, and answers the length, or minus the refusal's number.
-// One number, since C has no `Result`. The laws of settling stand here too: a caller reads this contract alone.
+// One number, since C has no `Result`: the length is 1 to 40, so the cast loses nothing. The laws of settling stand
+// here too, since a caller reads this contract alone.
 #[unsafe(no_mangle)]
 pub extern "C" fn spelling_settle(text: &[u8], out: &mut [u8]) -> i32
     ensures answer { result ≡ code_of (settle_into (length out.old) text.now) }

@@ -1,3 +1,4 @@
+-- Written out, though `search` finds it where the definitions unfold: so an error names the case.
 use Rattle.std.proofs.Common.{refl}
 use Rattle.spelling.specs.Settling.{settle, spelled}
 use Rattle.model.specs.Machine.{first, next_vacant, filed}
