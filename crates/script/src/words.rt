@@ -22,6 +22,7 @@ pub fn cut_word(line: &[u8]) -> Cut<'_>
     ensures word { result.word.now ≡ first_word line.now }
     ensures rest { option_map (λ x. x.now) result.rest ≡ after_word line.now }
 {
+    // Not `splitn`, whose pieces left the two clauses open when it was tried.
     match line.iter().position(|&b| is_space(b)) {
         Some(i) => Cut {
             word: &line[..i],
