@@ -1,12 +1,12 @@
 -- The faces of settling: how each tells what `settle` gives.
 use Rattle.std.specs.Prelude.{ℕ, List, ◌++◌, length, drop, ℤ, pos, neg_ℤ, Ok, Err, Result}
+use Rattle.std.specs.Result.{result_map_both}
 use Rattle.refusal.specs.Numbers.{number_of}
 use Rattle.refusal.specs.declared.Reason.{Reason}
 
 -- what was granted, read by f
 abbrev pub map_ok : {T U : Type 0} → (T → U) → Result T Reason → Result U Reason
-map_ok f (Ok x) = Ok (f x)
-map_ok f (Err reason) = Err reason
+map_ok f r = result_map_both f (λ reason. reason) r
 
 -- a caller's buffer: a spelling is written over its front, and a refusal leaves it
 abbrev pub buffer_after : Result (List ℕ) Reason → List ℕ → List ℕ

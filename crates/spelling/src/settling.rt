@@ -38,7 +38,7 @@ fn plain_byte(b: u8) -> u8
 fn goes(slash: bool, after_slash: bool) -> bool
     ensures { result ≡ (slash && after_slash) }
 {
-    slash & after_slash
+    slash && after_slash
 }
 
 /// A text in lower case, with slashes for backslashes, one slash for each run of them, and none at the left end.

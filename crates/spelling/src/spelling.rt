@@ -23,6 +23,7 @@ impl Model for Spelling {
 
     ghost view = { λ s. take s.len s.bytes };
 
+    // The text is settled, zeros follow it, and the length is the text's.
     ghost invariant = { λ s. Settled (take s.len s.bytes) × (s.bytes ≡ padded (take s.len s.bytes)) × (s.len ≡ length (take s.len s.bytes)) };
 
     ghost inverse = { λ text. record { bytes = padded text; len = length text } };
