@@ -17,8 +17,10 @@ passed_both true true r s h = (refl, refl)
 passed_both true false r s h = absurd cc
 passed_both false q r s h = absurd cc
 
-pub text_passes : (t : List ℕ) → ◌≡◌ {A = Result (Unit {0}) Reason} (Ok tt) (text_limits t (Ok tt)) → list_all allowed t ≡ true
-text_passes t h = (passed_both (leb (length t) 120) (list_all allowed t) TextTooLong ByteNotAllowed h).1
+pub text_passes : (t : List ℕ) → ◌≡◌ {A = Result (Unit {0}) Reason} (Ok tt) (text_limits t (Ok tt)) → (length t ≤ 120) × (list_all allowed t ≡ true)
+text_passes t h =
+    let both = passed_both (leb (length t) 120) (list_all allowed t) TextTooLong ByteNotAllowed h in
+    (leb-true (length t) 120 both.0, both.1)
 
 pub length_passes : (n : ℕ) → ◌≡◌ {A = Result (Unit {0}) Reason} (Ok tt) (length_limits n (Ok tt)) → (1 ≤ n) × (n ≤ 40)
 length_passes n h =

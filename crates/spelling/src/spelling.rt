@@ -8,11 +8,12 @@ use std::marker::Model;
 /// A settled spelling, the one form under which a path is filed. A clause sees it as its text. The invariant says that
 /// no value of it can be anything but settled, and that the bytes after the text are 0, so that equal texts are equal
 /// values.
-// An array and a length, since a spelling is `Copy` and takes no memory of the heap; an `ArrayVec` is not `Copy`.
+// An array and a length, since a spelling is `Copy` and takes no memory of the heap; an `ArrayVec` is not `Copy`. The
+// length is a byte, so that a spelling takes 41 bytes and not 48.
 #[derive(Clone, Copy, PartialEq, Eq)]
 pub struct Spelling {
     bytes: [u8; LONGEST_SPELLING],
-    len: usize,
+    len: u8,
 }
 
 impl Model for Spelling {
@@ -37,9 +38,10 @@ impl Spelling {
     {
         let mut bytes = [0; LONGEST_SPELLING];
         bytes[..text.len()].copy_from_slice(text);
+        // The length is at most 40, so the cast loses nothing.
         Spelling {
             bytes,
-            len: text.len(),
+            len: text.len() as u8,
         }
     }
 
@@ -49,6 +51,6 @@ impl Spelling {
         ensures text { result.now ≡ self.now }
         ensures settled { Settled result.now }
     {
-        &self.bytes[..self.len]
+        &self.bytes[..usize::from(self.len)]
     }
 }

@@ -1,28 +1,37 @@
-use Rattle.std.proofs.Common.{◌≡◌, ℕ, ◌+◌, ◌<◌, Bool, cond, ◌&&◌, List, [], ◌∷◌, ◌++◌, map, length, get_or, drop, sym, ap, ◌∙◌, append_assoc, arith, length-append}
-use Rattle.std.proofs.lemmas.List.{at_drop_more}
-use Rattle.spelling.specs.Settling.{is_slash, plain}
+use Rattle.std.proofs.Common.{◌≡◌, ℕ, ◌+◌, ◌<◌, ◌≤◌, Bool, true, false, cond, ◌&&◌, List, ◌∷◌, ◌++◌, length, get_or, take, drop, set, sym, refl, ◌∙◌, append_assoc, arith}
+use Rattle.std.proofs.lemmas.List.{at_drop_more, take-set, take_more_set, drop-set-lt}
+use Rattle.spelling.specs.Settling.{is_slash}
 use Rattle.spelling.proofs.Squeezing.{squeezed, squeezed_more}
 use Rattle.spelling.proofs.settling.squeezed.Goals as goal
 use Rattle.spelling.proofs.settling.squeezed.Goals.{then-not-goes, else-not-goes}
 
 -- what is still to come, from the byte at i on
-ahead : (text : List ℕ) (i b : ℕ) (after goes : Bool) → i < length text → b ≡ plain (get_or text i 0) → goes ≡ (is_slash b && after) → squeezed after (map plain (drop i text)) ≡ cond goes (squeezed (is_slash b) (map plain (drop (i + 1) text))) (b ∷ squeezed (is_slash b) (map plain (drop (i + 1) text)))
-ahead text i b after goes lt e g =
-    at_drop_more (λ l. squeezed after (map plain l)) text i 0 lt ∙ rw (e, g, e) (squeezed_more after (plain (get_or text i 0)) (map plain (drop (i + 1) text)))
+ahead : (bs : List ℕ) (i : ℕ) (after : Bool) → i < length bs → squeezed after (drop i bs) ≡ cond (is_slash (get_or bs i 0) && after) (squeezed (is_slash (get_or bs i 0)) (drop (i + 1) bs)) (get_or bs i 0 ∷ squeezed (is_slash (get_or bs i 0)) (drop (i + 1) bs))
+ahead bs i after lt = at_drop_more (squeezed after) bs i 0 lt ∙ squeezed_more after (get_or bs i 0) (drop (i + 1) bs)
 
-pub loop-b-preserved : goal.loop-b-preserved
-loop-b-preserved c =
-    let text = c.args.text.now in
-    let i = c.loop-b.b-index in
-    let lt : i < length text = omega arith in
-    let next = ahead text i c.plain_byte-b.result c.loop-b.after_slash c.goes.result lt c.plain_byte-b.ensures c.goes.ensures in
+-- the byte at i is kept, or left out after a slash
+kept : (bs : List ℕ) (len i : ℕ) (after : Bool) → len ≤ i → i < length bs → (is_slash (get_or bs i 0) && after) ≡ false → take (len + 1) (set bs len (get_or bs i 0)) ++ squeezed (is_slash (get_or bs i 0)) (drop (i + 1) (set bs len (get_or bs i 0))) ≡ take len bs ++ squeezed after (drop i bs)
+kept bs len i after behind lt first =
+    let e : squeezed after (drop i bs) ≡ get_or bs i 0 ∷ squeezed (is_slash (get_or bs i 0)) (drop (i + 1) bs) = ahead bs i after lt ∙ rw first refl in
+    rw (take_more_set bs len (get_or bs i 0) (omega arith), drop-set-lt (i + 1) bs len (get_or bs i 0) (omega arith), append_assoc, e) refl
+
+left_out : (bs : List ℕ) (len i : ℕ) (after : Bool) → len ≤ i → i < length bs → (is_slash (get_or bs i 0) && after) ≡ true → take len (set bs len (get_or bs i 0)) ++ squeezed (is_slash (get_or bs i 0)) (drop (i + 1) (set bs len (get_or bs i 0))) ≡ take len bs ++ squeezed after (drop i bs)
+left_out bs len i after behind lt again =
+    let e : squeezed after (drop i bs) ≡ squeezed (is_slash (get_or bs i 0)) (drop (i + 1) bs) = ahead bs i after lt ∙ rw again refl in
+    rw (take-set bs len (get_or bs i 0), drop-set-lt (i + 1) bs len (get_or bs i 0) (omega arith), e) refl
+
+pub loop-i-preserved : goal.loop-i-preserved
+loop-i-preserved c =
+    let bs = c.loop-i.bytes in
+    let behind = c.loop-i.invariant.behind in
+    let lt : c.loop-i.i < length bs = omega arith in
     elim c.if-not-goes.branch [
-      | then-not-goes w ↦ rw (w.left-is, w.after_slash-is, w.push.ensures.items) record {
-        fits = omega (arith, length-append c.loop-b.left.items (c.plain_byte-b.result ∷ []), c.loop-b.invariant.fits);
-        rest = append_assoc c.loop-b.left.items (c.plain_byte-b.result ∷ []) _ ∙ ap (λ (l : List ℕ). c.loop-b.left.items ++ l) (sym (rw w.if-not-goes.true at next)) ∙ c.loop-b.invariant.rest;
+      | then-not-goes w ↦ record {
+        behind = omega (arith, w.len-is, behind);
+        rest = rw w.len-is (kept bs c.loop-i.len c.loop-i.i c.loop-i.after_slash behind lt (sym c.goes.ensures ∙ w.if-not-goes.true) ∙ c.loop-i.invariant.rest);
       }
-      | else-not-goes w ↦ rw (w.left-is, w.after_slash-is) record {
-        fits = omega (arith, c.loop-b.invariant.fits);
-        rest = ap (λ (l : List ℕ). c.loop-b.left.items ++ l) (sym (rw w.if-not-goes.false at next)) ∙ c.loop-b.invariant.rest;
+      | else-not-goes w ↦ record {
+        behind = omega (arith, w.len-is, behind);
+        rest = rw w.len-is (left_out bs c.loop-i.len c.loop-i.i c.loop-i.after_slash behind lt (sym c.goes.ensures ∙ w.if-not-goes.false) ∙ c.loop-i.invariant.rest);
       }
     ]

@@ -1,12 +1,12 @@
-use Rattle.std.proofs.Common.{◌≡◌, ◌≤◌, ◌++◌, map, length, drop}
-use Rattle.spelling.specs.Settling.{plain, trim_left, merge_runs}
+use Rattle.std.proofs.Common.{◌≡◌, ◌≤◌, ◌++◌, take, drop}
+use Rattle.spelling.specs.Settling.{trim_left, merge_runs}
 use Rattle.spelling.proofs.Squeezing.{squeezed}
 use Rattle.spelling.proofs.settling.squeezed.Given as goal
 
--- what is left so far, and what is still to come, make up the answer
-abbrev pub invariant-loop-b : goal.invariant-loop-b
-invariant-loop-b l =
+-- what is at the front, and what is still to come, make up the answer
+abbrev pub invariant-loop-i : goal.invariant-loop-i
+invariant-loop-i l =
     record {
-      fits : length l.left.items ≤ l.b-index;
-      rest : l.left.items ++ squeezed l.after_slash (map plain (drop l.b-index l.text)) ≡ trim_left (merge_runs (map plain l.text));
+      behind : l.len ≤ l.i;
+      rest : take l.len l.bytes ++ squeezed l.after_slash (drop l.i l.bytes) ≡ trim_left (merge_runs l.initial.bytes);
     }
