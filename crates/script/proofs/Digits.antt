@@ -17,10 +17,10 @@ own = numerals_by_fold _ (search rules) digits_after (search rules)
 parts : (ds : List ℕ) → is_number ds ≡ true → (all_ascii_digits ds ≡ true) × (0 < length ds) × (digits_after 0 ds < 2 ^ 32)
 parts ds h = grind (arith, nat_tests)
 
-none_unless : (ds : List ℕ) → (is_number ds ≡ true → ⊥) → None ≡ word_number ds
+pub none_unless : (ds : List ℕ) → (is_number ds ≡ true → ⊥) → None ≡ word_number ds
 none_unless ds never = grind (arith, nat_tests)
 
-not_text : (ds : List ℕ) → (IsUtf8 ds → ⊥) → None ≡ word_number ds
+pub not_text : (ds : List ℕ) → (IsUtf8 ds → ⊥) → None ≡ word_number ds
 not_text ds bad = none_unless ds (λ e. bad (IsUtf8-from_ascii ds (IsAscii-from_digits ds (own.to ds (parts ds e).0))))
 
 converted : {E : Type 0} (ds : List ℕ) (r : Result ℕ E) → OkIff r ((all_ascii_digits ds ≡ true) × (0 < length ds) × (digits_after 0 ds < 2 ^ 32)) (digits_after 0 ds) → result_ok r ≡ word_number ds

@@ -11,7 +11,7 @@ use Rattle.script.specs.Escapes.{prepended, unescaped, after_backslash, is_plain
 abbrev pub onto : List ℕ → Option (List ℕ) → Option (List ℕ)
 onto xs o = option_map (λ bs. xs ++ bs) o
 
-onto_more : (xs : List ℕ) (b : ℕ) (o : Option (List ℕ)) → onto (xs ++ b ∷ []) o ≡ onto xs (prepended b o)
+pub onto_more : (xs : List ℕ) (b : ℕ) (o : Option (List ℕ)) → onto (xs ++ b ∷ []) o ≡ onto xs (prepended b o)
 onto_more xs b None = refl
 onto_more xs b (Some bs) = ap (λ l. Some l) (append_assoc xs (b ∷ []) bs)
 

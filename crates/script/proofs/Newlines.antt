@@ -12,7 +12,7 @@ cut_off [] = refl
 cut_off (b ∷ []) = refl
 cut_off (b ∷ c ∷ bs) = ap (λ l. b ∷ l) (cut_off (c ∷ bs))
 
-no_newline : (s : List ℕ) → ((l : List ℕ) → s ≡ l ++ 10 ∷ [] → ⊥) → s ≡ without_newline s
+pub no_newline : (s : List ℕ) → ((l : List ℕ) → s ≡ l ++ 10 ∷ [] → ⊥) → s ≡ without_newline s
 no_newline [] never = refl
 no_newline (b ∷ []) never = rw (ne_eqb b 10 (λ e. never [] (ap (λ n. n ∷ []) e)))
 no_newline (b ∷ c ∷ bs) never = ap (λ l. b ∷ l) (no_newline (c ∷ bs) (λ l e. never (b ∷ l) (ap (λ k. b ∷ k) e)))

@@ -1,9 +1,9 @@
 -- How answers are written (docs/RULES.md, the script language).
-use Rattle.std.specs.Prelude.{ℕ, List, [], ◌∷◌, ◌++◌, length, Ok, Err, Result, codes, decimal}
+use Rattle.std.specs.Prelude.{ℕ, suc, List, [], ◌∷◌, ◌++◌, length, take, ℤ, pos, negsuc, Ok, Err, Result, codes, decimal}
 use Rattle.refusal.specs.Numbers.{number_of}
 use Rattle.refusal.specs.declared.Reason.{Reason}
 use Rattle.script.specs.declared.answer.Answer.{Answer}
-use Rattle.script.specs.declared.answer.Answer.TheVariants.{SettleText}
+use Rattle.script.specs.declared.answer.Answer.TheVariants.{SettleText, Settled, NotSettled}
 use Rattle.script.specs.declared.answer.Called.{Called}
 use Rattle.script.specs.declared.answer.Collected.{Collected}
 use Rattle.script.specs.declared.answer.Summary.{Summary}
@@ -26,6 +26,13 @@ settling_answer (Err reason) = minus (number_of reason)
 abbrev pub answer_text : Answer → List ℕ
 answer_text (SettleText (Ok settled)) = settling_answer (Ok settled.now)
 answer_text (SettleText (Err reason)) = settling_answer (Err reason)
+answer_text (Settled text) = sized text.now
+answer_text (NotSettled number) = minus number
+
+-- the line for what the face for C returned: the length of the text at the front of the buffer, or minus a refusal's number
+abbrev pub settled_line : ℤ → List ℕ → List ℕ
+settled_line (pos n) buffer = sized (take n buffer)
+settled_line (negsuc n) buffer = minus (suc n)
 
 -- n and the words after it, before the rest
 abbrev pub counted : ℕ → List ℕ → List ℕ → List ℕ

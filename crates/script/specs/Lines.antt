@@ -63,3 +63,8 @@ call_of name rest = cond (is_settletext name) (settletext_of rest) invalid
 abbrev pub line_of : List ℕ → Said
 line_of [] = passed_over
 line_of (b ∷ bs) = cond (b == 35) passed_over (call_of (first_word (b ∷ bs)) (after_word (b ∷ bs)))
+
+-- an error as text; where memory ran out, in std's words
+abbrev pub error_text : LineError → List ℕ
+error_text Invalid = codes "invalid line"
+error_text (OutOfMemory e) = codes "memory allocation failed"

@@ -1,11 +1,15 @@
 //! What is written: the answers of calls, and a summary at the end.
 use refusal::Reason;
 
-/// What a call gave, a variant for each call.
+/// What a call gave, a variant for each call; and what the face for C gave, which answers by a number (`settled`).
 #[derive(Clone, Copy, Debug, PartialEq, Eq)]
 pub enum Answer<'a> {
     /// The settled spelling, or why there is none.
     SettleText(Result<&'a [u8], Reason>),
+    /// The settled spelling, as C's face told it.
+    Settled(&'a [u8]),
+    /// The number of a refusal, as C's face told it.
+    NotSettled(u32),
 }
 
 /// The lines that reached a call of the store, and how many of them were granted and refused.

@@ -16,3 +16,4 @@ pub use error::LineError;
 pub use read::{line_text, read_line};
 pub use text::{Escaped, unescape};
 pub use words::{Cut, cut_word, number};
+pub use written::settled;

@@ -1,6 +1,6 @@
 //! Answers as text.
-ghost use Rattle.std.specs.Prelude.{Some};
-ghost use Rattle.script.specs.Answering.{answer_text, called_text, collected_text, summary_text};
+ghost use Rattle.std.specs.Prelude.{◌≡◌, take, Some};
+ghost use Rattle.script.specs.Answering.{answer_text, called_text, collected_text, summary_text, settled_line};
 
 use crate::answer::{Answer, Called, Collected, Summary};
 use crate::text::Escaped;
@@ -11,8 +11,11 @@ impl fmt::Display for Answer<'_> {
 
     fn fmt<W: fmt::Write>(&self, f: &mut fmt::Formatter<W>) -> fmt::Result {
         match *self {
-            Answer::SettleText(Ok(settled)) => write!(f, "{} {}", settled.len(), Escaped(settled)),
+            Answer::SettleText(Ok(text)) | Answer::Settled(text) => {
+                write!(f, "{} {}", text.len(), Escaped(text))
+            }
             Answer::SettleText(Err(reason)) => write!(f, "-{}", u8::from(reason)),
+            Answer::NotSettled(number) => write!(f, "-{number}"),
         }
     }
 }
@@ -46,5 +49,23 @@ impl fmt::Display for Summary {
 
     fn fmt<W: fmt::Write>(&self, f: &mut fmt::Formatter<W>) -> fmt::Result {
         write!(f, "done {}, {}", self.called, self.collected)
+    }
+}
+
+/// The first `len` bytes, or all where there are fewer.
+fn front(buffer: &[u8], len: usize) -> &[u8]
+    ensures { result.now ≡ take len buffer.now }
+{
+    buffer.get(..len).unwrap_or(buffer)
+}
+
+/// The answer for what the face for C returned: the length of the text at the front of the buffer, or minus the number
+/// of the refusal.
+pub fn settled(returned: i32, buffer: &[u8]) -> Answer<'_>
+    ensures { answer_text result ≡ settled_line returned buffer.now }
+{
+    match usize::try_from(returned) {
+        Ok(len) => Answer::Settled(front(buffer, len)),
+        Err(_) => Answer::NotSettled(returned.unsigned_abs()),
     }
 }
