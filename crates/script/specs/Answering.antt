@@ -29,7 +29,8 @@ answer_text (SettleText (Err reason)) = settling_answer (Err reason)
 answer_text (Settled text) = sized text.now
 answer_text (NotSettled number) = minus number
 
--- the line for what the face for C returned: the length of the text at the front of the buffer, or minus a refusal's number
+-- the line for what the face for C returned: the length of the text at the front of the buffer, or minus a refusal's
+-- number; `negsuc n` is minus (n + 1)
 abbrev pub settled_line : ℤ → List ℕ → List ℕ
 settled_line (pos n) buffer = sized (take n buffer)
 settled_line (negsuc n) buffer = minus (suc n)
